@@ -1,0 +1,275 @@
+// Fields read, highest bit first; bits past the end are 0. After src/bit_reader.rs.
+use crate::LAST_START;
+use crate::LONGEST_INPUT;
+use crate::Refusal;
+ghost use mathlib.Core.Path.{_≡_};
+ghost use Prim.Native.Nat.{_+_, _-_, _*_, _/_, _%_, _^_, _≤_, _<_};
+ghost use lib.ListN.{length, getD};
+ghost use Rattle.bitstream.specs.Bits.{fieldAt};
+ghost use lib.Count.{leadingZeros};
+ghost use Rattle.bitstream.specs.Outcome.{value, mapOutcome};
+ghost use Rattle.bitstream.specs.Fields.{zerosAt, suffixAt, readUe, seValue};
+ghost use Rattle.bitstream.specs.Reading.{outcomeU, outcomeS, outcomeT, BelowMost, uAt, ueAt, seAt, trailingAt};
+
+// A position in a byte slice, as a bit.
+pub struct BitReader {
+    pub bit_pos: usize,
+}
+
+// An unsigned field and the position after it.
+pub enum FieldU {
+    Value(u32, BitReader),
+    Refused(Refusal),
+}
+
+// A signed field and the position after it.
+pub enum FieldS {
+    Value(i32, BitReader),
+    Refused(Refusal),
+}
+
+// The position after the stop bit and the padding.
+pub enum Trailing {
+    Aligned(BitReader),
+    Refused(Refusal),
+}
+
+// Byte i.
+fn byte(bytes: &[u8], i: usize) -> u64
+    requires { ⌜ i < length (now bytes) ⌝ }
+    ensures { λ r. ⌜ (r ≡ getD (now (bytes .entry)) i 0) × (r < 256) ⌝ }
+{
+    bytes[i] as u64
+}
+
+// Byte i, or 0 past the end.
+fn byte_or_zero(bytes: &[u8], i: usize) -> u64
+    ensures { λ r. ⌜ (r ≡ getD (now (bytes .entry)) i 0) × (r < 256) ⌝ }
+{
+    if i < bytes.len() { byte(bytes, i) } else { 0 }
+}
+
+// The three bytes from byte i on, as one number.
+fn three(bytes: &[u8], i: usize) -> u64
+    requires { ⌜ i ≤ 2097152 ⌝ }
+    ensures { λ r. ⌜ (r ≡ fieldAt (now (bytes .entry)) (i * 8) 24) × (r < 16777216) ⌝ }
+{
+    (byte_or_zero(bytes, i) * 256 + byte_or_zero(bytes, i + 1)) * 256 + byte_or_zero(bytes, i + 2)
+}
+
+// The five bytes from byte i on, as one number.
+fn five(bytes: &[u8], i: usize) -> u64
+    requires { ⌜ i ≤ 2097152 ⌝ }
+    ensures { λ r. ⌜ (r ≡ fieldAt (now (bytes .entry)) (i * 8) 40) × (r < 1099511627776) ⌝ }
+{
+    (three(bytes, i) * 256 + byte_or_zero(bytes, i + 3)) * 256 + byte_or_zero(bytes, i + 4)
+}
+
+// The n bits of w before its last `unread`.
+fn cut(w: u64, unread: u64, n: u32) -> u32
+    requires { ⌜ (n ≤ 32) × (unread < 64) ⌝ }
+    ensures { λ r. ⌜ r ≡ w / 2 ^ unread % 2 ^ n ⌝ }
+{
+    ((w >> unread) % (1 << n as u64)) as u32
+}
+
+// The n bits from bit p on, where one byte holds them.
+fn narrow(bytes: &[u8], p: usize, n: u32) -> u32
+    requires { ⌜ p % 8 + n ≤ 8 ⌝ }
+    ensures { λ r. ⌜ r ≡ fieldAt (now (bytes .entry)) p n ⌝ }
+{
+    cut(byte_or_zero(bytes, p / 8), 8 - (p % 8) as u64 - n as u64, n)
+}
+
+// The n bits from bit p on: three bytes hold any field of 17 bits, five one of 32.
+fn wide(bytes: &[u8], p: usize, n: u32) -> u32
+    requires { ⌜ (n ≤ 32) × (p ≤ 2097152) ⌝ }
+    ensures { λ r. ⌜ r ≡ fieldAt (now (bytes .entry)) p n ⌝ }
+{
+    if n <= 17 {
+        cut(three(bytes, p / 8), 24 - (p % 8) as u64 - n as u64, n)
+    } else {
+        cut(five(bytes, p / 8), 40 - (p % 8) as u64 - n as u64, n)
+    }
+}
+
+// The 24 - p % 8 bits from bit p on, as the highest of a u32 whose rest is 0.
+fn word(bytes: &[u8], p: usize) -> u32
+    requires { ⌜ p ≤ 2097152 ⌝ }
+    ensures { λ r. ⌜ (r ≡ fieldAt (now (bytes .entry)) p (24 - p % 8) * 2 ^ (8 + p % 8)) × (r < 4294967296) ⌝ }
+{
+    (three(bytes, p / 8) as u32) << (8 + p % 8) as u32
+}
+
+// A ue of at most 8 zeros from its 1 bit on, out of one word; 0 for a longer one.
+fn short_code(bytes: &[u8], p: usize) -> u32
+    requires { ⌜ p ≤ 1048576 ⌝ }
+    ensures { λ r. ⌜ (r < 512) × (0 < r → readUe (now (bytes .entry)) p ≡ value (r - 1) (p + (63 - 2 * leadingZeros 32 r))) ⌝ }
+{
+    let w = word(bytes, p);
+    let z = u32::leading_zeros(w);
+    if 8 < z {
+        return 0;
+    }
+    w >> (31 - 2 * z)
+}
+
+// The field of a short code.
+fn short_ue(code: u32, p: usize) -> FieldU
+    requires { ⌜ (0 < code) × (code < 512) × (p ≤ 1048576) ⌝ }
+    ensures { λ r. ⌜ outcomeU r ≡ value (code - 1) (p + (63 - 2 * leadingZeros 32 code)) ⌝ }
+{
+    let n = 63 - 2 * u32::leading_zeros(code);
+    FieldU::Value(
+        code - 1,
+        BitReader {
+            bit_pos: p + n as usize,
+        },
+    )
+}
+
+// The 0 bits from bit p on, up to a 1 bit, the input's end, or 32 of them.
+fn leading_zeros(bytes: &[u8], p: usize) -> u32
+    requires { ⌜ (length (now bytes) ≤ 65536) × (p ≤ 1048576) ⌝ }
+    ensures { λ r. ⌜ (r ≡ zerosAt (now (bytes .entry)) p 32) × (r ≤ 32) ⌝ }
+{
+    let end = bytes.len() * 8;
+    if end <= p {
+        return 0;
+    }
+    let z = u32::leading_zeros(wide(bytes, p, 32));
+    let left = end - p;
+    if left < z as usize { left as u32 } else { z }
+}
+
+// Where the suffix of a ue with z zeros begins: there is no 1 bit to pass where the input's end stopped the zeros.
+fn suffix_at(bytes: &[u8], p: usize, z: u32) -> usize
+    requires { ⌜ (length (now bytes) ≤ 65536) × (p ≤ 1048576) ⌝ }
+    ensures { λ r. ⌜ (r ≡ suffixAt (now (bytes .entry)) p z) × (r ≤ p + z + 1) ⌝ }
+{
+    let q = p + z as usize;
+    if q < bytes.len() * 8 { q + 1 } else { q }
+}
+
+// A ue of any length.
+fn long_ue(bytes: &[u8], p: usize) -> FieldU
+    requires { ⌜ (length (now bytes) ≤ 65536) × (p ≤ 1048576) ⌝ }
+    ensures { λ r. ⌜ outcomeU r ≡ readUe (now (bytes .entry)) p ⌝ }
+{
+    let z = leading_zeros(bytes, p);
+    if 32 <= z {
+        return FieldU::Refused(Refusal::InvalidData);
+    }
+    let s = suffix_at(bytes, p, z);
+    let v = wide(bytes, s, z);
+    FieldU::Value(
+        (1 << z) - 1 + v,
+        BitReader {
+            bit_pos: s + z as usize,
+        },
+    )
+}
+
+// The se that a ue stands for.
+fn signed(field: FieldU) -> FieldS
+    requires { ⌜ BelowMost (outcomeU field) ⌝ }
+    ensures { λ r. ⌜ outcomeS r ≡ mapOutcome seValue (outcomeU field) ⌝ }
+{
+    match field {
+        FieldU::Value(k, r) => {
+            if k % 2 == 1 {
+                FieldS::Value((k / 2 + 1) as i32, r)
+            } else {
+                FieldS::Value(-((k / 2) as i32), r)
+            }
+        }
+        FieldU::Refused(e) => FieldS::Refused(e),
+    }
+}
+
+impl BitReader {
+    // u(n), clause 7.2.
+    pub fn u(self, bytes: &[u8], n: u32) -> FieldU
+        ensures { λ r. ⌜ outcomeU r ≡ uAt (now (bytes .entry)) (self .«bit_pos») n ⌝ }
+    {
+        let p = self.bit_pos;
+        if LONGEST_INPUT < bytes.len() {
+            return FieldU::Refused(Refusal::InputTooLong);
+        }
+        if LAST_START < p {
+            return FieldU::Refused(Refusal::InvalidData);
+        }
+        if 32 < n {
+            return FieldU::Refused(Refusal::InvalidData);
+        }
+        let after = BitReader {
+            bit_pos: p + n as usize,
+        };
+        if p % 8 + n as usize <= 8 {
+            FieldU::Value(narrow(bytes, p, n), after)
+        } else {
+            FieldU::Value(wide(bytes, p, n), after)
+        }
+    }
+
+    // ue(v), clause 9.2.
+    pub fn ue(self, bytes: &[u8]) -> FieldU
+        ensures { λ r. ⌜ outcomeU r ≡ ueAt (now (bytes .entry)) (self .«bit_pos») ⌝ }
+    {
+        let p = self.bit_pos;
+        if LONGEST_INPUT < bytes.len() {
+            return FieldU::Refused(Refusal::InputTooLong);
+        }
+        if LAST_START < p {
+            return FieldU::Refused(Refusal::InvalidData);
+        }
+        let code = short_code(bytes, p);
+        if code == 0 {
+            return long_ue(bytes, p);
+        }
+        short_ue(code, p)
+    }
+
+    // se(v), clause 9.2.2.
+    pub fn se(self, bytes: &[u8]) -> FieldS
+        ensures { λ r. ⌜ outcomeS r ≡ seAt (now (bytes .entry)) (self .«bit_pos») ⌝ }
+    {
+        let p = self.bit_pos;
+        if LONGEST_INPUT < bytes.len() {
+            return FieldS::Refused(Refusal::InputTooLong);
+        }
+        if LAST_START < p {
+            return FieldS::Refused(Refusal::InvalidData);
+        }
+        let code = short_code(bytes, p);
+        if code == 0 {
+            return signed(long_ue(bytes, p));
+        }
+        signed(short_ue(code, p))
+    }
+
+    // rbsp_trailing_bits(), clause 7.3.2.16: a 1 bit, then zeros to the end of the byte.
+    pub fn read_rbsp_trailing_bits(self, bytes: &[u8]) -> Trailing
+        ensures { λ r. ⌜ outcomeT r ≡ trailingAt (now (bytes .entry)) (self .«bit_pos») ⌝ }
+    {
+        let p = self.bit_pos;
+        if LONGEST_INPUT < bytes.len() {
+            return Trailing::Refused(Refusal::InputTooLong);
+        }
+        if LAST_START < p {
+            return Trailing::Refused(Refusal::InvalidData);
+        }
+        if bytes.len() * 8 <= p {
+            return Trailing::Refused(Refusal::UnexpectedEnd);
+        }
+        let k = (7 - p % 8) as u32;
+        let rest = narrow(bytes, p, k + 1);
+        if rest == 1 << k {
+            Trailing::Aligned(BitReader {
+                bit_pos: p + k as usize + 1,
+            })
+        } else {
+            Trailing::Refused(Refusal::InvalidData)
+        }
+    }
+}

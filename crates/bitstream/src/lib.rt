@@ -1,0 +1,20 @@
+// Library 1: bit fields and escapes, after src/bit_reader.rs, src/bit_writer.rs and src/nal.rs of the Rust.
+pub mod bit_reader;
+pub mod bit_writer;
+pub mod nal;
+
+// The longest input that is taken, in bytes.
+pub const LONGEST_INPUT: usize = 65536;
+
+// The last bit at which a field may start.
+pub const LAST_START: usize = 1048576;
+
+// Why a call refuses: document 01's numbers 1 to 6, in order.
+pub enum Refusal {
+    UnexpectedEnd,
+    InvalidData,
+    Unsupported,
+    InputTooLong,
+    OutputTooShort,
+    EmptyPlace,
+}
