@@ -78,7 +78,8 @@ fn narrow(bytes: &[u8], p: usize, n: u32) -> u32
     requires { ⌜ p % 8 + n ≤ 8 ⌝ }
     ensures { λ r. ⌜ r ≡ fieldAt (now (bytes .entry)) p n ⌝ }
 {
-    cut(byte_or_zero(bytes, p / 8), 8 - (p % 8) as u64 - n as u64, n)
+    let up = (byte_or_zero(bytes, p / 8) << (p % 8) as u64) % 256;
+    (up >> (8 - n as u64)) as u32
 }
 
 // The n bits from bit p on: three bytes hold any field of 17 bits, five one of 32.
