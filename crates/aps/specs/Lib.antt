@@ -1,0 +1,9 @@
+pub mod Codec
+pub mod Elements
+pub mod AlfSyntax
+pub mod LmcsSyntax
+pub mod ScalingSyntax
+pub mod ApsSyntax
+pub mod Rbsp
+pub mod Unit
+pub mod Reading

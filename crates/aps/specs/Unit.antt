@@ -1,0 +1,57 @@
+-- One unit: its header (H.266 7.3.1.2), and the set that it holds (document 01, 'One unit').
+use mathlib.Core.Bool.{Bool, true, false, cond, not, _||_}
+use mathlib.Core.List.{List, _++_}
+use Prim.Native.Nat.{ℕ, _-_, _/_, _%_}
+use lib.Dec.{leb, ltb, eqb}
+use lib.ListN.{length, getD, drop}
+use Rattle.bitstream.specs.Outcome.{Outcome, value, refused, number}
+use Rattle.bitstream.specs.Escapes.{unescape}
+use Rattle.aps.specs.Rbsp.{readRbsp}
+use Rattle.aps.specs.declared.aps.VvcAps.{VvcAps}
+use Rattle.aps.specs.declared.nal_header.VvcNalHeader.{VvcNalHeader}
+use Rattle.aps.specs.declared.nal_header.HeaderRead.{HeaderRead}
+use Rattle.aps.specs.declared.nal_header.HeaderRead.the-variants.{Header, Refused}
+
+-- forbidden_zero_bit, nuh_reserved_zero_bit, nuh_layer_id; nal_unit_type, nuh_temporal_id_plus1
+unfoldable pub headerOf : List ℕ → VvcNalHeader
+headerOf u =
+    record {
+      «forbidden_zero_bit» = getD u 0 0 / 128;
+      «nuh_reserved_zero_bit» = getD u 0 0 / 64 % 2;
+      «nuh_layer_id» = getD u 0 0 % 64;
+      «nal_unit_type» = getD u 1 0 / 8;
+      «nuh_temporal_id_plus1» = getD u 1 0 % 8;
+    }
+
+abbrev pub outcomeH : HeaderRead → Outcome VvcNalHeader
+outcomeH (Header h) = value h 16
+outcomeH (Refused e) = refused (number e)
+
+-- 4: over 65,536 bytes; 1: under two. The header ends at bit 16
+unfoldable pub parseNalHeader : List ℕ → Outcome VvcNalHeader
+parseNalHeader u = cond (ltb 65536 (length u)) (refused 4) (cond (ltb (length u) 2) (refused 1) (value (headerOf u) 16))
+
+-- prefix or suffix APS
+abbrev pub isAps : ℕ → Bool
+isAps t = eqb t 17 || eqb t 18
+
+-- the RBSP of a unit
+abbrev pub payloadOf : List ℕ → List ℕ
+payloadOf u = unescape (drop 2 u)
+
+-- 4; 1 and 2 of the header; 5: the work buffer is shorter than the unit less 2; then the RBSP
+unfoldable pub parseAps : List ℕ → ℕ → Outcome VvcAps
+parseAps u room =
+    cond (ltb 65536 (length u)) (refused 4)
+    (cond (ltb (length u) 2) (refused 1)
+    (cond (isAps (getD u 1 0 / 8))
+    (cond (ltb room (length u - 2)) (refused 5) (readRbsp (payloadOf u)))
+    (refused 2)))
+
+-- the unit got as far as its RBSP
+unfoldable pub unescaped : List ℕ → ℕ → Bool
+unescaped u room = cond (ltb 65536 (length u)) false (cond (ltb (length u) 2) false (cond (isAps (getD u 1 0 / 8)) (leb (length u - 2) room) false))
+
+-- what is left in the work buffer: the RBSP and then what stood there, or all as it was
+unfoldable pub workAfter : List ℕ → List ℕ → List ℕ
+workAfter u work = cond (unescaped u (length work)) (payloadOf u ++ drop (length (payloadOf u)) work) work

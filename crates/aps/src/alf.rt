@@ -1,0 +1,37 @@
+// alf_data(), H.266 7.3.2.18.
+// Luma filters: row r of the flat arrays is at 12 * r.
+pub struct VvcAlfLuma {
+    pub alf_luma_clip_flag: bool,
+    pub alf_luma_num_filters_signalled_minus1: u32,
+    pub alf_luma_coeff_delta_idx: [u8; 25],
+    pub coeff_abs: [u32; 300],
+    pub coeff_sign: [bool; 300],
+    pub clip_idx: [u8; 300],
+}
+
+// Chroma alternatives: row r of the flat arrays is at 6 * r.
+pub struct VvcAlfChroma {
+    pub alf_chroma_clip_flag: bool,
+    pub alf_chroma_num_alt_filters_minus1: u32,
+    pub coeff_abs: [u32; 48],
+    pub coeff_sign: [bool; 48],
+    pub clip_idx: [u8; 48],
+}
+
+// Cross-component filters of Cb or Cr: row r of the flat arrays is at 7 * r.
+pub struct VvcAlfCcFilters {
+    pub filters_signalled_minus1: u32,
+    pub mapped_coeff_abs: [u8; 28],
+    pub coeff_sign: [bool; 28],
+}
+
+pub struct VvcAlfData {
+    pub alf_luma_filter_signal_flag: bool,
+    pub alf_chroma_filter_signal_flag: bool,
+    pub alf_cc_cb_filter_signal_flag: bool,
+    pub alf_cc_cr_filter_signal_flag: bool,
+    pub luma: VvcAlfLuma,
+    pub chroma: VvcAlfChroma,
+    pub cc_cb: VvcAlfCcFilters,
+    pub cc_cr: VvcAlfCcFilters,
+}
