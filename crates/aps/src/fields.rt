@@ -23,11 +23,7 @@ pub(crate) enum Stop {
 
 // A magnitude, its sign and the bit after them.
 pub(crate) enum SignedField {
-    Value {
-        abs: u32,
-        sign: bool,
-        next: usize,
-    },
+    Value { abs: u32, sign: bool, next: usize },
     Refused(Refusal),
 }
 

@@ -1,0 +1,22 @@
+-- How far a field can reach.
+use Prim.Native.Nat.{ℕ, _+_, _≤_}
+use mathlib.Core.Path.{_≡_, refl, sym, _∙_}
+use mathlib.Core.List.{List}
+use lib.IntN.{ℤ}
+use Rattle.bitstream.specs.Outcome.{Outcome, value, refused, mapOutcome}
+use Rattle.bitstream.specs.Fields.{readUe, readSe, seValue}
+use Rattle.bitstream.proofs.CodeLaws.{ue-end}
+use Rattle.aps.specs.Reading.{EndsBy}
+
+pub ue-ends : (s : List ℕ) (p : ℕ) {o : Outcome ℕ} → o ≡ readUe s p → EndsBy o (p + 63)
+ue-ends s p {o = value v q} e = ue-end s p e
+ue-ends s p {o = refused n} e = tt
+
+-- mapping a value does not move its end
+map-ends : {A B : Type 0} (f : A → B) (o : Outcome A) (m : ℕ) → EndsBy o m → EndsBy (mapOutcome f o) m
+map-ends f (value a q) m h = h
+map-ends f (refused n) m h = tt
+
+pub se-ends : (s : List ℕ) (p : ℕ) {o : Outcome ℤ} → o ≡ readSe s p → EndsBy o (p + 63)
+unfolding readSe
+se-ends s p e = rw e (map-ends seValue (readUe s p) (p + 63) (ue-ends s p refl))
