@@ -1,3 +1,5 @@
+pub mod Answers
 pub mod Bounds
+pub mod LmcsSteps
 pub mod PairLaws
 pub mod Steps

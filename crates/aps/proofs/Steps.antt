@@ -7,10 +7,11 @@ use native.Mathlib.Nat.{add-zero, add-suc, suc-add, zero-add, sub-zero}
 use native.Mathlib.Numerals.{add-one}
 use native.Mathlib.Omega.{arith}
 use lib.ListN.{length, getD, take, drop, set, replicate, length-set, length-replicate, take-append-drop}
-use lib.Seq.{drop-cons, take-suc, take-suc-set, drop-set-lt, drop-drop, length-take-le, split-at}
+use lib.Seq.{drop-cons, take-suc, take-suc-set, drop-set-lt, drop-drop, length-take-le, split-at, take-at, drop-at}
 use Rattle.bitstream.specs.Outcome.{Outcome, value, refused, _then_}
 use Rattle.bitstream.specs.Bits.{fieldAt}
 use Rattle.bitstream.specs.Fields.{readU, readUe}
+use Rattle.bitstream.proofs.FieldLaws.{field-lt}
 use lib.Dec.{eqb, ltb}
 use Rattle.aps.specs.Elements.{flag, signed, firsts, seconds, zipped, apart}
 use Rattle.aps.proofs.PairLaws.{firsts-zipped, seconds-zipped}
@@ -44,11 +45,35 @@ pub signed-read : (c : Codec ℕ) (s : List ℕ) (p : ℕ)
 unfolding signed _▷_ when
 signed-read c s p = refl
 
+-- the magnitude is of n bits
+pub signed-u-lt : (n : ℕ) (s : List ℕ) (p : ℕ) {m : ℕ} {b : Bool} {q : ℕ} → (signed (u n)) .read s p ≡ value (m, b) q → m < 2 ^ n
+signed-u-lt n s p {m} {b} {q} e = go (not (eqb (fieldAt s p n) 0)) (sym (signed-read (u n) s p ∙ rw (u-read n s p)) ∙ e)
+  where
+    first : (x : Outcome Bool) → _then_ {B = ℕ × Bool} x (λ b r. value (fieldAt s p n, b) r) ≡ value (m, b) q → fieldAt s p n ≡ m
+    first (value d r) e = let w : _≡_ {A = ℕ × Bool} (fieldAt s p n, d) (m, b) = cc in ap (λ (x : ℕ × Bool). x .0) w
+    first (refused k) e = let z : _≡_ {A = ℕ} 0 1 = cc in absurd (omega arith)
+
+    go : (t : Bool) → _then_ {B = ℕ × Bool} (cond t (flag .read s (p + n)) (value false (p + n))) (λ b r. value (fieldAt s p n, b) r) ≡ value (m, b) q → m < 2 ^ n
+    go true e = let f : fieldAt s p n ≡ m = first (flag .read s (p + n)) e in rw (← f) (field-lt s p n)
+    go false e = let f : fieldAt s p n ≡ m = first (value false (p + n)) e in rw (← f) (field-lt s p n)
+
 module _ {A : Type 0} where
   pub judged-read : (test : A → Bool) (c : Codec A) (s : List ℕ) (p : ℕ)
       → (judged test c) .read s p ≡ _then_ (c .read s p) (λ a q. cond (test a) (value a q) (refused 2))
   unfolding judged
   judged-read test c s p = refl
+
+  -- what was read passed the test
+  pub judged-true : (test : A → Bool) (c : Codec A) (s : List ℕ) (p : ℕ) {a : A} {q : ℕ} → (judged test c) .read s p ≡ value a q → test a ≡ true
+  judged-true test c s p {a} {q} e = go (c .read s p) (sym (judged-read test c s p) ∙ e)
+    where
+      same : (x : A) (r : ℕ) (t : Bool) → test x ≡ t → cond t (value x r) (refused 2) ≡ value a q → test a ≡ true
+      same x r true f g = let h : x ≡ a = cc in rw (← h) f
+      same x r false f g = let z : _≡_ {A = ℕ} 0 1 = cc in absurd (omega arith)
+
+      go : (o : Outcome A) → (o then λ a q. cond (test a) (value a q) (refused 2)) ≡ value a q → test a ≡ true
+      go (value x r) g = same x r (test x) refl g
+      go (refused n) g = let z : _≡_ {A = ℕ} 0 1 = cc in absurd (omega arith)
 
   pub when-read : (b : Bool) (d : Inferred A) (c : Codec A) (s : List ℕ) (p : ℕ) → (when b d c) .read s p ≡ cond b (c .read s p) (value (d .default) p)
   unfolding when
@@ -135,6 +160,10 @@ module _ {A : Type 0} (k : ℕ → Codec A) where
       and-assoc true b c = refl
       and-assoc false b c = refl
 
+replicate-add : {A : Type 0} (n m : ℕ) (v : A) → replicate (n + m) v ≡ replicate n v ++ replicate m v
+replicate-add zero m v = rw (zero-add m)
+replicate-add (suc n) m v = rw (suc-add n m, replicate-add n m v)
+
 -- A loop that fills an array: entries below i are read, the rest are v as at first. The loop's invariant holds it for its array a and its position q.
 pub record Reading {A : Type 0} (k : ℕ → Codec A) (N : ℕ) (v : A) (s : List ℕ) (p i : ℕ) (a : List A) (q : ℕ) : Type 0 where
   pub so-far : (eachFrom 0 i k) .read s p ≡ value (take i a) q
@@ -145,6 +174,17 @@ module _ {A : Type 0} (k : ℕ → Codec A) (N : ℕ) (v : A) (s : List ℕ) (p 
   pub reading-start : Reading k N v s p 0 (replicate N v) p
   unfolding eachFrom
   reading-start = record { so-far = refl; rest = rw (sub-zero N); size = length-replicate N v }
+
+  -- the entries below i take no bits
+  pub reading-from : (i : ℕ) → i ≤ N → ((j : ℕ) → j < i → (k j) .read s p ≡ value v p) → Reading k N v s p i (replicate N v) p
+  reading-from i h f =
+      let m : i + (N - i) ≡ N = omega arith in
+      let w : replicate N v ≡ replicate i v ++ replicate (N - i) v = ap (λ (n : ℕ). replicate n v) (sym m) ∙ replicate-add i (N - i) v in
+      record {
+        so-far = each-absent k 0 i v s p (λ j a b. f j (rw (zero-add i) at b)) ∙ ap (λ (l : List A). value l p) (rw w (sym (take-at (replicate i v) (replicate (N - i) v) i (length-replicate i v))));
+        rest = rw w (drop-at (replicate i v) (replicate (N - i) v) i (length-replicate i v));
+        size = length-replicate N v;
+      }
 
   module _ (i : ℕ) (a : List A) (q : ℕ) (R : Reading k N v s p i a q) where
     pub reading-more : (x : A) (r : ℕ) → i < N → (k i) .read s q ≡ value x r → Reading k N v s p (i + 1) (set a i x) r
@@ -214,6 +254,10 @@ module _ {A B : Type 0} (k : ℕ → Codec (A × B)) (N : ℕ) (v : A) (w : B) (
   pub reading2-start : Reading2 k N v w s p 0 (replicate N v) (replicate N w) p
   reading2-start =
       record { pairs = rw (zipped-replicate N v w) (reading-start k N (v, w) s p); size = length-replicate N v; size′ = length-replicate N w }
+
+  pub reading2-from : (i : ℕ) → i ≤ N → ((j : ℕ) → j < i → (k j) .read s p ≡ value (v, w) p) → Reading2 k N v w s p i (replicate N v) (replicate N w) p
+  reading2-from i h f =
+      record { pairs = rw (zipped-replicate N v w) (reading-from k N (v, w) s p i h f); size = length-replicate N v; size′ = length-replicate N w }
 
   module _ (i : ℕ) (a : List A) (b : List B) (q : ℕ) (R : Reading2 k N v w s p i a b q) where
     pub reading2-more : (x : A) (y : B) (r : ℕ) → i < N → (k i) .read s q ≡ value (x, y) r → Reading2 k N v w s p (i + 1) (set a i x) (set b i y) r

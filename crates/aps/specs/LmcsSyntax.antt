@@ -3,6 +3,7 @@ use mathlib.Core.Bool.{Bool, true, false, cond, not, _&&_}
 use mathlib.Core.List.{List}
 use Prim.Native.Nat.{ℕ, _+_, _-_}
 use lib.Dec.{leb, eqb}
+use Rattle.bitstream.specs.Outcome.{Outcome, value, _then_}
 use Rattle.aps.specs.Codec.{Codec, u, ue, _▷_, via, judged, when, each}
 use Rattle.aps.specs.Elements.{signed, noSigned, apart}
 use Rattle.aps.specs.declared.lmcs.VvcLmcsData.{VvcLmcsData}
@@ -29,13 +30,17 @@ lmcsCodewords h =
 abbrev pub lmcsChroma : Bool → Codec (ℕ × Bool)
 lmcsChroma chroma = when chroma noSigned (signed (u 3))  -- lmcs_delta_abs_crs, lmcs_delta_sign_crs_flag
 
-unfoldable pub lmcsSyntax : Bool → Codec LmcsData
-lmcsSyntax chroma =
+-- the three are read, then judged
+abbrev pub lmcsHead : Codec LmcsHead
+lmcsHead =
     judged inRange
     (ue ▷ λ min.  -- lmcs_min_bin_idx
     ue ▷ λ max.  -- lmcs_delta_max_bin_idx
     ue)  -- lmcs_delta_cw_prec_minus1
-    ▷ λ h.
+
+unfoldable pub lmcsSyntax : Bool → Codec LmcsData
+lmcsSyntax chroma =
+    lmcsHead ▷ λ h.
     lmcsCodewords h ▷ λ cw.
     lmcsChroma chroma
 
@@ -59,3 +64,7 @@ fromLmcs d = (
 
 unfoldable pub lmcs : Bool → Codec VvcLmcsData
 lmcs chroma = via toLmcs fromLmcs (λ d. true) (lmcsSyntax chroma)
+
+-- what is read after the head
+unfoldable pub lmcsRest : Bool → LmcsHead → List ℕ → ℕ → Outcome VvcLmcsData
+lmcsRest chroma h s p = (lmcsCodewords h) .read s p then λ cw q. (lmcsChroma chroma) .read s q then λ crs r. value (toLmcs (h, (cw, crs))) r

@@ -1,0 +1,89 @@
+-- `read_rest`: the codewords, then the chroma delta, whose 3 bits fit a byte.
+use borrow.Author.Needs.{needs}
+use Prim.Native.Nat.{_+_, _≤_, _<_}
+use mathlib.Core.Path.{_≡_, sym, ap, _∙_}
+use denote.Ref.{now}
+use native.Mathlib.Omega.{arith}
+use Rattle.bitstream.specs.Outcome.{value}
+use Rattle.aps.specs.LmcsSyntax.{lmcsCodewords, lmcsChroma, toLmcs}
+use Rattle.aps.specs.Reading.{outcomeStop, outcomeSigned}
+use Rattle.aps.proofs.Answers.{answered}
+use Rattle.aps.proofs.LmcsSteps.{crs-lt, rest-refused, crs-refused, rest-read}
+use Rattle.aps.proofs.lmcs.read_rest.Statement.{statement}
+use Rattle.aps.proofs.lmcs.read_rest.Tie as tie
+
+-- what the codewords gave, and how far they reached
+words : (c : tie.After-known-told)
+    → ((lmcsCodewords (c .before .before .before .before .before .before .before .args .min, (c .before .before .before .before .before .before .before .args .max, c .before .before .before .before .before .before .before .args .prec))) .read (now (c .before .before .before .before .before .before .before .args .bytes)) (c .before .before .before .before .before .before .before .args .p)
+    ≡ value (c .before .before .before .before .before .read-codewords .result .abs, c .before .before .before .before .before .read-codewords .result .sign) (c .before .stop .given .0 .0))
+    × (c .before .stop .given .0 .0 ≤ c .before .before .before .before .before .before .before .args .p + 256)
+words c =
+    let k = c .before .before .before .before .before .read-codewords in
+    (answered (λ st. outcomeStop st (k .result .abs, k .result .sign)) (c .before .stop .given .1) (k .ensures .0), rw (c .before .stop .given .1) at (k .ensures .1))
+
+crs : (c : tie.After-known-told3) → c .before .m .given .0 .0 < 8
+crs c = crs-lt (c .before .before .before .before .before .before .before .before .before .before .before .args .chroma) _ _ (answered outcomeSigned (c .before .m .given .1) (c .before .before .before .read-crs .ensures .0))
+
+read-codewords-requires : tie.Need-read-codewords-requires
+read-codewords-requires c κs = search needs
+
+enum-known-stop : tie.Need-enum-known-stop
+enum-known-stop c = search needs
+
+enum-known-stop-2 : tie.Need-enum-known-stop-2
+enum-known-stop-2 c = search needs
+
+no-lmcs-requires : tie.Need-no-lmcs-requires
+no-lmcs-requires c κs = search needs
+
+returns : tie.Need-returns
+returns c =
+    let k = c .before .before .before .before .before .before .read-codewords in
+    let e = answered (λ st. outcomeStop st (k .result .abs, k .result .sign)) (c .before .before .stop2 .given .1) (k .ensures .0) in
+    (rw (c .no-lmcs .ensures) (sym (rest-refused _ _ _ _ _ e)), rw (c .no-lmcs .ensures) tt)
+
+read-crs-requires : tie.Need-read-crs-requires
+read-crs-requires c κs = (c .before .before .before .before .before .before .before .pre .0, omega (arith, words c .1))
+
+enum-known-m : tie.Need-enum-known-m
+enum-known-m c = search needs
+
+cast-t22 : tie.Need-cast-t22
+cast-t22 c = omega (arith, crs c)
+
+enum-known-why : tie.Need-enum-known-why
+enum-known-why c = search needs
+
+no-lmcs-requires-2 : tie.Need-no-lmcs-requires-2
+no-lmcs-requires-2 c κs = search needs
+
+returns-2 : tie.Need-returns-2
+unfolding toLmcs
+returns-2 c =
+    let d = c .before .before .before .before in
+    let k = c .before .before .before .read-crs in
+    let n : c .before .m .given .0 .1 .1 .0 ≤ c .before .before .before .before .before .stop .given .0 .0 + 4 = rw (c .before .m .given .1) at (k .ensures .1) in
+    (sym (rest-read _ _ _ _ _ _ (words d .0) _ _ (answered outcomeSigned (c .before .m .given .1) (k .ensures .0))), omega (arith, words d .1))
+
+returns-3 : tie.Need-returns-3
+returns-3 c =
+    let d = c .before .before .before .before .before in
+    let e = answered outcomeSigned (c .before .before .why .given .1) (c .before .before .before .before .read-crs .ensures .0) in
+    (rw (c .no-lmcs2 .ensures) (sym (crs-refused _ _ _ _ _ _ (words d .0) _ e)), rw (c .no-lmcs2 .ensures) tt)
+
+pub read-rest-spec : {M : Type 1} → statement M
+read-rest-spec =
+    tie.close
+    (tie.spec
+    read-codewords-requires
+    enum-known-stop
+    enum-known-stop-2
+    no-lmcs-requires
+    returns
+    read-crs-requires
+    enum-known-m
+    cast-t22
+    enum-known-why
+    no-lmcs-requires-2
+    returns-2
+    returns-3)
