@@ -2,4 +2,5 @@ pub mod Answers
 pub mod Bounds
 pub mod LmcsSteps
 pub mod PairLaws
+pub mod RbspSteps
 pub mod Steps

@@ -1,5 +1,5 @@
 -- The RBSP of a set, read and written: the set, then with extension flag 0 the stop bit and zeros to the byte's end.
-use mathlib.Core.Bool.{cond}
+use mathlib.Core.Bool.{Bool, cond}
 use mathlib.Core.List.{List, _++_}
 use Prim.Native.Nat.{ℕ}
 use lib.Dec.{ltb}
@@ -7,6 +7,7 @@ use lib.ListN.{length}
 use Rattle.bitstream.specs.Outcome.{Outcome, value, refused, _then_}
 use Rattle.bitstream.specs.Bits.{pack}
 use Rattle.bitstream.specs.Fields.{readTrailing, trailingBits}
+use Rattle.aps.specs.Elements.{flag}
 use Rattle.aps.specs.ApsSyntax.{aps}
 use Rattle.aps.specs.declared.aps.VvcAps.{VvcAps}
 
@@ -28,3 +29,22 @@ rbspBits a = aps .emit a ++ trailingBits (length (aps .emit a))
 -- the bytes of a set that the writer takes
 unfoldable pub rbspBytes : VvcAps → List ℕ
 rbspBytes a = pack (rbspBits a)
+
+-- ---- the set by its kind, as its reader puts it together
+
+-- the set with the extension flag read
+unfoldable pub withExtension : VvcAps → Bool → VvcAps
+withExtension a x =
+    record {
+      kind = a .kind;
+      «aps_adaptation_parameter_set_id» = a .«aps_adaptation_parameter_set_id»;
+      «aps_chroma_present_flag» = a .«aps_chroma_present_flag»;
+      «aps_extension_flag» = x;
+      alf = a .alf;
+      lmcs = a .lmcs;
+      scaling = a .scaling;
+    }
+
+-- the extension flag and what closes the RBSP
+unfoldable pub finished : List ℕ → VvcAps → ℕ → Outcome VvcAps
+finished s a q = flag .read s q then λ x r. closed s (withExtension a x) r

@@ -35,3 +35,41 @@ pub struct VvcAlfData {
     pub cc_cb: VvcAlfCcFilters,
     pub cc_cr: VvcAlfCcFilters,
 }
+
+ghost use mathlib.Core.Path.{_≡_};
+ghost use Rattle.aps.specs.ApsSyntax.{zeroAlf};
+pub(crate) fn zero_alf() -> VvcAlfData
+    ensures { λ r. ⌜ r ≡ zeroAlf ⌝ }
+{
+    VvcAlfData {
+        alf_luma_filter_signal_flag: false,
+        alf_chroma_filter_signal_flag: false,
+        alf_cc_cb_filter_signal_flag: false,
+        alf_cc_cr_filter_signal_flag: false,
+        luma: VvcAlfLuma {
+            alf_luma_clip_flag: false,
+            alf_luma_num_filters_signalled_minus1: 0,
+            alf_luma_coeff_delta_idx: [0; 25],
+            coeff_abs: [0; 300],
+            coeff_sign: [false; 300],
+            clip_idx: [0; 300],
+        },
+        chroma: VvcAlfChroma {
+            alf_chroma_clip_flag: false,
+            alf_chroma_num_alt_filters_minus1: 0,
+            coeff_abs: [0; 48],
+            coeff_sign: [false; 48],
+            clip_idx: [0; 48],
+        },
+        cc_cb: VvcAlfCcFilters {
+            filters_signalled_minus1: 0,
+            mapped_coeff_abs: [0; 28],
+            coeff_sign: [false; 28],
+        },
+        cc_cr: VvcAlfCcFilters {
+            filters_signalled_minus1: 0,
+            mapped_coeff_abs: [0; 28],
+            coeff_sign: [false; 28],
+        },
+    }
+}

@@ -1,8 +1,21 @@
-// adaptation_parameter_set_rbsp(), H.266 7.3.2.6.
+// adaptation_parameter_set_rbsp(), H.266 7.3.2.6. After src/h266/aps.rs.
 use crate::alf::VvcAlfData;
+use crate::alf::zero_alf;
+use crate::fields::read_flag;
 use crate::lmcs::VvcLmcsData;
+use crate::lmcs::zero_lmcs;
 use crate::scaling_list::VvcScalingListData;
+use crate::scaling_list::zero_scaling;
 use bitstream::Refusal;
+use bitstream::bit_reader::BitReader;
+use bitstream::bit_reader::Trailing;
+ghost use mathlib.Core.Path.{_≡_};
+ghost use Prim.Native.Nat.{_≤_};
+ghost use lib.ListN.{length};
+ghost use Rattle.aps.specs.Rbsp.{closed, finished};
+ghost use Rattle.aps.specs.ApsSyntax.{emptySet};
+ghost use Rattle.aps.specs.Reading.{outcomeRead, outcomeAps, setGiven};
+ghost use Rattle.aps.specs.declared.aps.VvcAps.{VvcAps};
 
 // aps_params_type.
 pub enum ApsKind {
@@ -57,4 +70,63 @@ pub enum ApsOutcome {
 pub struct ApsReading {
     pub outcome: ApsOutcome,
     pub set: VvcAps,
+}
+
+// Every field zero, false or the first case.
+pub fn empty_set() -> VvcAps
+    ensures { λ r. ⌜ r ≡ emptySet ⌝ }
+{
+    VvcAps {
+        kind: ApsKind::Alf,
+        aps_adaptation_parameter_set_id: 0,
+        aps_chroma_present_flag: false,
+        aps_extension_flag: false,
+        alf: zero_alf(),
+        lmcs: zero_lmcs(),
+        scaling: zero_scaling(),
+    }
+}
+
+fn refuse(why: Refusal) -> ApsReading
+    ensures { λ r. ⌜ (r .outcome ≡ ApsOutcome.Refused why) × (r .set ≡ emptySet) ⌝ }
+{
+    ApsReading {
+        outcome: ApsOutcome::Refused(why),
+        set: empty_set(),
+    }
+}
+
+// Where the RBSP ends: with extension flag 1 nothing more is read.
+fn read_end(bytes: &[u8], p: usize, extension: bool) -> ApsOutcome
+    requires { ⌜ (length (now bytes) ≤ 65536) × (p ≤ 900000) ⌝ }
+    ensures { λ r. ⌜ ((a : VvcAps) → a .«aps_extension_flag» ≡ extension → outcomeRead r a ≡ closed (now (bytes .entry)) a p) ⌝ }
+{
+    if extension {
+        return ApsOutcome::Read(p);
+    }
+    match (BitReader { bit_pos: p }).read_rbsp_trailing_bits(bytes) {
+        Trailing::Aligned(r) => ApsOutcome::Read(r.bit_pos),
+        Trailing::Refused(why) => ApsOutcome::Refused(why),
+    }
+}
+
+// The extension flag and what closes the RBSP.
+fn ending(bytes: &[u8], p: usize, set: VvcAps) -> ApsReading
+    requires { ⌜ (length (now bytes) ≤ 65536) × (p ≤ 300000) ⌝ }
+    ensures answer { λ r. ⌜ outcomeAps r ≡ finished (now (bytes .entry)) set p ⌝ }
+    ensures set { λ r. ⌜ r .set ≡ setGiven (finished (now (bytes .entry)) set p) ⌝ }
+{
+    let extension = read_flag(bytes, p);
+    let outcome = read_end(bytes, p + 1, extension);
+    match outcome {
+        ApsOutcome::Read(q) => {
+            let mut whole = set;
+            whole.aps_extension_flag = extension;
+            ApsReading {
+                outcome: ApsOutcome::Read(q),
+                set: whole,
+            }
+        }
+        ApsOutcome::Refused(why) => refuse(why),
+    }
 }

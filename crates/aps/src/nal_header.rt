@@ -1,5 +1,8 @@
 // nal_unit_header(), H.266 7.3.1.2. After src/h266.rs.
+use bitstream::LONGEST_INPUT;
 use bitstream::Refusal;
+ghost use mathlib.Core.Path.{_≡_};
+ghost use Rattle.aps.specs.Unit.{outcomeH, parseNalHeader};
 
 pub struct VvcNalHeader {
     pub forbidden_zero_bit: u8,
@@ -12,4 +15,25 @@ pub struct VvcNalHeader {
 pub enum HeaderRead {
     Header(VvcNalHeader),
     Refused(Refusal),
+}
+
+// The two bytes at the start of a unit; nothing in them is judged.
+pub fn parse_nal_header(unit: &[u8]) -> HeaderRead
+    ensures { λ r. ⌜ outcomeH r ≡ parseNalHeader (now (unit .entry)) ⌝ }
+{
+    if LONGEST_INPUT < unit.len() {
+        return HeaderRead::Refused(Refusal::InputTooLong);
+    }
+    if unit.len() < 2 {
+        return HeaderRead::Refused(Refusal::UnexpectedEnd);
+    }
+    let first = unit[0];
+    let second = unit[1];
+    HeaderRead::Header(VvcNalHeader {
+        forbidden_zero_bit: first / 128,
+        nuh_reserved_zero_bit: first / 64 % 2,
+        nuh_layer_id: first % 64,
+        nal_unit_type: second / 8,
+        nuh_temporal_id_plus1: second % 8,
+    })
 }

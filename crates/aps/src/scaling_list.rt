@@ -7,3 +7,17 @@ pub struct VvcScalingListData {
     pub dc_coef: [i32; 14],
     pub scaling_list: [i32; 1792],
 }
+
+ghost use mathlib.Core.Path.{_≡_};
+ghost use Rattle.aps.specs.ApsSyntax.{zeroScaling};
+pub(crate) fn zero_scaling() -> VvcScalingListData
+    ensures { λ r. ⌜ r ≡ zeroScaling ⌝ }
+{
+    VvcScalingListData {
+        copy_mode_flag: [false; 28],
+        pred_mode_flag: [false; 28],
+        pred_id_delta: [0; 28],
+        dc_coef: [0; 14],
+        scaling_list: [0; 1792],
+    }
+}
