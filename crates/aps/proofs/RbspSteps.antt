@@ -2,10 +2,11 @@
 use mathlib.Core.Path.{_≡_, refl, sym, ap, _∙_}
 use mathlib.Core.Bool.{Bool, true, false, cond, not}
 use mathlib.Core.List.{List}
-use Prim.Native.Nat.{ℕ, zero, suc, _+_, _<_}
+use Prim.Native.Nat.{ℕ, zero, suc, _+_, _≤_, _<_}
 use native.Mathlib.Omega.{arith}
+use borrow.Author.Tests.{le-leb, lt-leb}
 use lib.Dec.{leb, eqb}
-use Rattle.bitstream.specs.Outcome.{Outcome, value, refused, _then_}
+use Rattle.bitstream.specs.Outcome.{Outcome, value, refused, mapOutcome, _then_}
 use Rattle.bitstream.specs.Bits.{fieldAt}
 use Rattle.bitstream.specs.Fields.{readU}
 use Rattle.aps.specs.Codec.{Codec, u, _▷_, via, judged, provided, never}
@@ -14,7 +15,7 @@ use Rattle.aps.specs.AlfSyntax.{alf}
 use Rattle.aps.specs.LmcsSyntax.{lmcs}
 use Rattle.aps.specs.ScalingSyntax.{Entry, scalingSyntax, keep}
 use Rattle.aps.specs.ApsSyntax.{zeroAlf, zeroLmcs, zeroScaling, Payload, ofAlf, ofLmcs, ofScaling, payload, ApsData, apsSyntax, toAps, aps}
-use Rattle.aps.specs.Rbsp.{closed, readRbsp, withExtension, finished}
+use Rattle.aps.specs.Rbsp.{closed, readRbsp, Headed, withExtension, finished}
 use Rattle.aps.specs.declared.alf.VvcAlfData.{VvcAlfData}
 use Rattle.aps.specs.declared.lmcs.VvcLmcsData.{VvcLmcsData}
 use Rattle.aps.specs.declared.scaling_list.VvcScalingListData.{VvcScalingListData}
@@ -72,55 +73,70 @@ module _ (s : List ℕ) where
       go (value d q) = rw (set-of-data kindIn idIn chromaIn d (not (eqb (fieldAt s q 1) 0)))
       go (refused n) = refl
 
-  -- ---- by kind
+-- ---- by kind
 
-  module _ (k : kindIn ≡ 0) where
-    pub alf-refused : (n : ℕ) → (alf chromaIn) .read s 9 ≡ refused n → readRbsp s ≡ refused n
+module _ (s : List ℕ) (id : ℕ) (chroma : Bool) where
+  headed-payload : (k : ℕ) → Headed s k id chroma → readRbsp s ≡ ((payload k id chroma) .read s 9 then λ d q. finished s (setWith id chroma d) q)
+  headed-payload k H = rbsp-payload s ∙ rw (H .kind-is, H .id-is, H .chroma-is)
+
+  module _ (H : Headed s 0 id chroma) where
+    pub alf-refused : (n : ℕ) → (alf chroma) .read s 9 ≡ refused n → readRbsp s ≡ refused n
     unfolding payload judged via
-    alf-refused n e = rbsp-payload ∙ rw (k, e)
+    alf-refused n e = headed-payload 0 H ∙ rw e
 
-    module _ (d : VvcAlfData) (q : ℕ) (e : (alf chromaIn) .read s 9 ≡ value d q) where
-      pub alf-id : leb idIn 7 ≡ false → readRbsp s ≡ refused 2
+    module _ (d : VvcAlfData) (q : ℕ) (e : (alf chroma) .read s 9 ≡ value d q) where
+      pub alf-id : 7 < id → readRbsp s ≡ refused 2
       unfolding payload judged via
-      alf-id h = rbsp-payload ∙ rw (k, e, h)
+      alf-id h = headed-payload 0 H ∙ rw (e, lt-leb id 7 h)
 
-      pub alf-set : leb idIn 7 ≡ true → readRbsp s ≡ finished s (setOf ApsKind.Alf idIn chromaIn d zeroLmcs zeroScaling) q
+      pub alf-set : id ≤ 7 → readRbsp s ≡ finished s (setOf ApsKind.Alf id chroma d zeroLmcs zeroScaling) q
       unfolding payload judged via
-      alf-set h = rbsp-payload ∙ rw (k, e, h)
+      alf-set h = headed-payload 0 H ∙ rw (e, le-leb id 7 h)
 
-  module _ (k : kindIn ≡ 1) where
-    pub lmcs-id : leb idIn 3 ≡ false → readRbsp s ≡ refused 2
+  module _ (H : Headed s 1 id chroma) where
+    pub lmcs-id : 3 < id → readRbsp s ≡ refused 2
     unfolding payload provided
-    lmcs-id h = rbsp-payload ∙ rw (k, h)
+    lmcs-id h = headed-payload 1 H ∙ rw (lt-leb id 3 h)
 
-    module _ (h : leb idIn 3 ≡ true) where
-      pub lmcs-refused : (n : ℕ) → (lmcs chromaIn) .read s 9 ≡ refused n → readRbsp s ≡ refused n
-      unfolding payload provided via
-      lmcs-refused n e = rbsp-payload ∙ rw (k, h, e)
+    pub lmcs-refused : id ≤ 3 → (n : ℕ) → (lmcs chroma) .read s 9 ≡ refused n → readRbsp s ≡ refused n
+    unfolding payload provided via
+    lmcs-refused h n e = headed-payload 1 H ∙ rw (le-leb id 3 h, e)
 
-      pub lmcs-set : (d : VvcLmcsData) (q : ℕ) → (lmcs chromaIn) .read s 9 ≡ value d q → readRbsp s ≡ finished s (setOf ApsKind.Lmcs idIn chromaIn zeroAlf d zeroScaling) q
-      unfolding payload provided via
-      lmcs-set d q e = rbsp-payload ∙ rw (k, h, e)
+    pub lmcs-set : id ≤ 3 → (d : VvcLmcsData) (q : ℕ) → (lmcs chroma) .read s 9 ≡ value d q → readRbsp s ≡ finished s (setOf ApsKind.Lmcs id chroma zeroAlf d zeroScaling) q
+    unfolding payload provided via
+    lmcs-set h d q e = headed-payload 1 H ∙ rw (le-leb id 3 h, e)
 
-  module _ (k : kindIn ≡ 2) where
-    pub scaling-refused : (n : ℕ) → (scalingSyntax chromaIn) .read s 9 ≡ refused n → readRbsp s ≡ refused n
+  module _ (H : Headed s 2 id chroma) where
+    pub scaling-refused : (n : ℕ) → mapOutcome keep ((scalingSyntax chroma) .read s 9) ≡ refused n → readRbsp s ≡ refused n
     unfolding payload judged via
-    scaling-refused n e = rbsp-payload ∙ rw (k, e)
+    scaling-refused n e = headed-payload 2 H ∙ go ((scalingSyntax chroma) .read s 9) e
+      where
+        go : (o : Outcome (List Entry)) → mapOutcome keep o ≡ refused n
+            → (((o then λ a q. value (ofScaling a) q) then λ a q. cond (leb id 7) (value a q) (refused 2)) then λ d q. finished s (setWith id chroma d) q) ≡ refused n
+        go (value es q) e = let z : _≡_ {A = ℕ} 0 1 = cc in absurd (omega arith)
+        go (refused m) e = let f : m ≡ n = cc in ap refused f
 
-    module _ (es : List Entry) (q : ℕ) (e : (scalingSyntax chromaIn) .read s 9 ≡ value es q) where
-      pub scaling-id : leb idIn 7 ≡ false → readRbsp s ≡ refused 2
+    module _ (d : VvcScalingListData) (q : ℕ) (e : mapOutcome keep ((scalingSyntax chroma) .read s 9) ≡ value d q) where
+      kept : (o : Outcome (List Entry)) → mapOutcome keep o ≡ value d q → (t : Bool)
+          → (((o then λ a q. value (ofScaling a) q) then λ a q. cond t (value a q) (refused 2)) then λ d q. finished s (setWith id chroma d) q)
+          ≡ cond t (finished s (setOf ApsKind.Scaling id chroma zeroAlf zeroLmcs d) q) (refused 2)
+      kept (value es r) e true = let (f, g) : (keep es ≡ d) × (r ≡ q) = (cc, cc) in rw (f, g)
+      kept (value es r) e false = refl
+      kept (refused m) e t = let z : _≡_ {A = ℕ} 0 1 = cc in absurd (omega arith)
+
+      pub scaling-id : 7 < id → readRbsp s ≡ refused 2
       unfolding payload judged via
-      scaling-id h = rbsp-payload ∙ rw (k, e, h)
+      scaling-id h = headed-payload 2 H ∙ kept ((scalingSyntax chroma) .read s 9) e (leb id 7) ∙ rw (lt-leb id 7 h)
 
-      pub scaling-set : leb idIn 7 ≡ true → readRbsp s ≡ finished s (setOf ApsKind.Scaling idIn chromaIn zeroAlf zeroLmcs (keep es)) q
+      pub scaling-set : id ≤ 7 → readRbsp s ≡ finished s (setOf ApsKind.Scaling id chroma zeroAlf zeroLmcs d) q
       unfolding payload judged via
-      scaling-set h = rbsp-payload ∙ rw (k, e, h)
+      scaling-set h = headed-payload 2 H ∙ kept ((scalingSyntax chroma) .read s 9) e (leb id 7) ∙ rw (le-leb id 7 h)
 
-  pub other-kind : 2 < kindIn → readRbsp s ≡ refused 3
-  other-kind h = rbsp-payload ∙ go kindIn h
+  pub other-kind : (k : ℕ) → Headed s k id chroma → 2 < k → readRbsp s ≡ refused 3
+  other-kind k H h = headed-payload k H ∙ go k h
     where
-      go : (k : ℕ) → 2 < k → ((payload k idIn chromaIn) .read s 9 then λ d q. finished s (setWith idIn chromaIn d) q) ≡ refused 3
+      go : (k : ℕ) → 2 < k → ((payload k id chroma) .read s 9 then λ d q. finished s (setWith id chroma d) q) ≡ refused 3
       go zero h = absurd (omega arith)
       go (suc zero) h = absurd (omega arith)
       go (suc (suc zero)) h = absurd (omega arith)
-      go (suc (suc (suc k))) h = never-read k idIn chromaIn s
+      go (suc (suc (suc k))) h = never-read k id chroma s

@@ -38,6 +38,7 @@ pub struct VvcAlfData {
 
 ghost use mathlib.Core.Path.{_≡_};
 ghost use Rattle.aps.specs.ApsSyntax.{zeroAlf};
+
 pub(crate) fn zero_alf() -> VvcAlfData
     ensures { λ r. ⌜ r ≡ zeroAlf ⌝ }
 {

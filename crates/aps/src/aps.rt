@@ -1,8 +1,10 @@
 // adaptation_parameter_set_rbsp(), H.266 7.3.2.6. After src/h266/aps.rs.
 use crate::alf::VvcAlfData;
 use crate::alf::zero_alf;
+use crate::fields::Stop;
 use crate::fields::read_flag;
 use crate::lmcs::VvcLmcsData;
+use crate::lmcs::read_lmcs;
 use crate::lmcs::zero_lmcs;
 use crate::scaling_list::VvcScalingListData;
 use crate::scaling_list::zero_scaling;
@@ -12,7 +14,7 @@ use bitstream::bit_reader::Trailing;
 ghost use mathlib.Core.Path.{_≡_};
 ghost use Prim.Native.Nat.{_≤_};
 ghost use lib.ListN.{length};
-ghost use Rattle.aps.specs.Rbsp.{closed, finished};
+ghost use Rattle.aps.specs.Rbsp.{closed, finished, readRbsp, Headed};
 ghost use Rattle.aps.specs.ApsSyntax.{emptySet};
 ghost use Rattle.aps.specs.Reading.{outcomeRead, outcomeAps, setGiven};
 ghost use Rattle.aps.specs.declared.aps.VvcAps.{VvcAps};
@@ -128,5 +130,35 @@ fn ending(bytes: &[u8], p: usize, set: VvcAps) -> ApsReading
             }
         }
         ApsOutcome::Refused(why) => refuse(why),
+    }
+}
+
+// An LMCS set: its id is judged before its payload.
+fn lmcs_set(bytes: &[u8], id: u8, chroma: bool) -> ApsReading
+    requires { ⌜ (length (now bytes) ≤ 65536) × Headed (now bytes) 1 id chroma ⌝ }
+    ensures answer { λ r. ⌜ outcomeAps r ≡ readRbsp (now (bytes .entry)) ⌝ }
+    ensures set { λ r. ⌜ r .set ≡ setGiven (readRbsp (now (bytes .entry))) ⌝ }
+{
+    if Lmcs::MAX_ID < id {
+        return refuse(Refusal::InvalidData);
+    }
+    let read = read_lmcs(bytes, 9, chroma);
+    let stop = read.stop;
+    let lmcs = read.lmcs;
+    match stop {
+        Stop::End(q) => ending(
+            bytes,
+            q,
+            VvcAps {
+                kind: ApsKind::Lmcs,
+                aps_adaptation_parameter_set_id: id,
+                aps_chroma_present_flag: chroma,
+                aps_extension_flag: false,
+                alf: zero_alf(),
+                lmcs,
+                scaling: zero_scaling(),
+            },
+        ),
+        Stop::Refused(why) => refuse(why),
     }
 }

@@ -10,6 +10,7 @@ pub struct VvcScalingListData {
 
 ghost use mathlib.Core.Path.{_≡_};
 ghost use Rattle.aps.specs.ApsSyntax.{zeroScaling};
+
 pub(crate) fn zero_scaling() -> VvcScalingListData
     ensures { λ r. ⌜ r ≡ zeroScaling ⌝ }
 {

@@ -5,7 +5,6 @@ use Rattle.aps.specs.ApsSyntax.{zeroAlf}
 use Rattle.aps.proofs.alf.zero_alf.Statement.{statement}
 use Rattle.aps.proofs.alf.zero_alf.Tie as tie
 
-
 returns : tie.Need-returns
 unfolding zeroAlf toLuma toChroma toCc
 returns c = refl

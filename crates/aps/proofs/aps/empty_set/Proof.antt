@@ -4,7 +4,6 @@ use Rattle.aps.specs.ApsSyntax.{emptySet}
 use Rattle.aps.proofs.aps.empty_set.Statement.{statement}
 use Rattle.aps.proofs.aps.empty_set.Tie as tie
 
-
 zero-alf-requires : tie.Need-zero-alf-requires
 zero-alf-requires c κs = search needs
 

@@ -11,7 +11,6 @@ use Rattle.aps.proofs.Steps.{flag-read}
 use Rattle.aps.proofs.aps.ending.Statement.{statement}
 use Rattle.aps.proofs.aps.ending.Tie as tie
 
-
 read-flag-requires : tie.Need-read-flag-requires
 read-flag-requires c κs = search needs
 

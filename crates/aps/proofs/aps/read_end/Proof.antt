@@ -10,7 +10,6 @@ use Rattle.aps.proofs.Answers.{answered}
 use Rattle.aps.proofs.aps.read_end.Statement.{statement}
 use Rattle.aps.proofs.aps.read_end.Tie as tie
 
-
 returns : tie.Need-returns
 unfolding closed
 returns c = λ a e. rw (e, c .if1 .taken)

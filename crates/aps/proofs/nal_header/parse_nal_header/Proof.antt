@@ -5,7 +5,6 @@ use Rattle.aps.specs.Unit.{headerOf, parseNalHeader}
 use Rattle.aps.proofs.nal_header.parse_nal_header.Statement.{statement}
 use Rattle.aps.proofs.nal_header.parse_nal_header.Tie as tie
 
-
 returns : tie.Need-returns
 unfolding parseNalHeader
 returns c = rw (lt-ltb _ _ (c .if1 .taken))

@@ -4,7 +4,6 @@ use Rattle.aps.specs.ApsSyntax.{zeroScaling}
 use Rattle.aps.proofs.scaling_list.zero_scaling.Statement.{statement}
 use Rattle.aps.proofs.scaling_list.zero_scaling.Tie as tie
 
-
 returns : tie.Need-returns
 unfolding zeroScaling
 returns c = refl

@@ -1,0 +1,79 @@
+-- `lmcs_set`: the id, the payload, then how the set ends.
+use borrow.Author.Needs.{needs}
+use Prim.Native.Nat.{_≤_}
+use mathlib.Core.Path.{_≡_}
+use denote.Ref.{now}
+use native.Mathlib.Omega.{arith}
+use Rattle.bitstream.specs.Outcome.{value}
+use Rattle.aps.specs.LmcsSyntax.{lmcs}
+use Rattle.aps.specs.Reading.{outcomeStop}
+use Rattle.aps.proofs.Answers.{answered, refused-answer, same-answer}
+use Rattle.aps.proofs.RbspSteps.{lmcs-id, lmcs-refused, lmcs-set}
+use Rattle.aps.proofs.aps.lmcs_set.Statement.{statement}
+use Rattle.aps.proofs.aps.lmcs_set.Tie as tie
+
+-- what the payload gave, and how far it reached
+taken : (c : tie.After-known-told)
+    → ((lmcs (c .before .before .before .before .before .before .before .args .chroma)) .read (now (c .before .before .before .before .before .before .before .args .bytes)) 9 ≡ value (c .before .before .before .before .read-lmcs .result .lmcs) (c .before .stop .given .0 .0)) × (c .before .stop .given .0 .0 ≤ 509)
+taken c =
+    let k = c .before .before .before .before .read-lmcs in
+    (answered (λ st. outcomeStop st (k .result .lmcs)) (c .before .stop .given .1) (k .ensures .0), rw (c .before .stop .given .1) at (k .ensures .1))
+
+refuse-requires : tie.Need-refuse-requires
+refuse-requires c κs = search needs
+
+returns : tie.Need-returns
+returns c =
+    let b = c .before .before .before in
+    refused-answer (c .refuse .result) _ (c .refuse .ensures) (lmcs-id (now (b .args .bytes)) (b .args .id) (b .args .chroma) (b .pre .1) (c .before .if1 .taken))
+
+read-lmcs-requires : tie.Need-read-lmcs-requires
+read-lmcs-requires c κs = search needs
+
+enum-known-stop : tie.Need-enum-known-stop
+enum-known-stop c = search needs
+
+zero-alf-requires : tie.Need-zero-alf-requires
+zero-alf-requires c κs = search needs
+
+zero-scaling-requires : tie.Need-zero-scaling-requires
+zero-scaling-requires c κs = search needs
+
+ending-requires : tie.Need-ending-requires
+ending-requires c κs = (c .before .before .before .before .before .before .before .before .before .pre .0, omega (arith, taken (c .before .before) .1))
+
+enum-known-stop-2 : tie.Need-enum-known-stop-2
+enum-known-stop-2 c = search needs
+
+refuse-requires-2 : tie.Need-refuse-requires-2
+refuse-requires-2 c κs = search needs
+
+returns-2 : tie.Need-returns-2
+returns-2 c =
+    let b = c .before .before .before .before .before .before .before .before .before .before in
+    let t = taken (c .before .before .before) in
+    same-answer (c .ending .result) (c .ending .ensures)
+    (rw (c .before .before .zero-alf .ensures, c .before .zero-scaling .ensures) (lmcs-set (now (b .args .bytes)) (b .args .id) (b .args .chroma) (b .pre .1) (c .before .before .before .before .before .before .before .before .if1 .left) _ _ (t .0)))
+
+returns-3 : tie.Need-returns-3
+returns-3 c =
+    let b = c .before .before .before .before .before .before .before .before in
+    let k = c .before .before .before .before .before .read-lmcs in
+    let e = answered (λ st. outcomeStop st (k .result .lmcs)) (c .before .before .stop2 .given .1) (k .ensures .0) in
+    refused-answer (c .refuse2 .result) _ (c .refuse2 .ensures) (lmcs-refused (now (b .args .bytes)) (b .args .id) (b .args .chroma) (b .pre .1) (c .before .before .before .before .before .before .if1 .left) _ e)
+
+pub lmcs-set-spec : {M : Type 1} → statement M
+lmcs-set-spec =
+    tie.close
+    (tie.spec
+    refuse-requires
+    returns
+    read-lmcs-requires
+    enum-known-stop
+    zero-alf-requires
+    zero-scaling-requires
+    ending-requires
+    enum-known-stop-2
+    refuse-requires-2
+    returns-2
+    returns-3)
