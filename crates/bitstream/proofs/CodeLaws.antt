@@ -160,6 +160,14 @@ suffix-end : (s : List ℕ) (p z : ℕ) → length s * 8 ≤ p + z → suffixAt 
 unfolding suffixAt
 suffix-end s p z h = rw (le-ltb _ _ h)
 
+suffix-le : (s : List ℕ) (p z : ℕ) → suffixAt s p z ≤ p + z + 1
+unfolding suffixAt
+suffix-le s p z = go (ltb (p + z) (length s * 8))
+  where
+    go : (b : Bool) → cond b (p + z + 1) (p + z) ≤ p + z + 1
+    go true = omega arith
+    go false = omega arith
+
 -- z zeros and a suffix of z bits make a value below 2 ^ 32 - 1, for z below 32
 pub ue-lt : (z v : ℕ) → z < 32 → v < 2 ^ z → ueValue z v < 4294967295
 unfolding ueValue
@@ -189,6 +197,12 @@ pub ue-max : (s : List ℕ) (p : ℕ) {v q : ℕ} → value v q ≡ readUe s p �
 ue-max s p e =
     let h = ue-value s p e in
     rw (h .1) (ue-lt _ _ (h .0) (field-lt s (suffixAt s p (zerosAt s p 32)) (zerosAt s p 32)))
+
+-- no ue takes more than 63 bits
+pub ue-end : (s : List ℕ) (p : ℕ) {v q : ℕ} → value v q ≡ readUe s p → q ≤ p + 63
+ue-end s p e =
+    let h = ue-value s p e in
+    omega (arith, h .0, h .2, suffix-le s p (zerosAt s p 32))
 
 pub ue-below : (s : List ℕ) (p : ℕ) {o : Outcome ℕ} → o ≡ readUe s p → BelowMost o
 ue-below s p {o = value v q} e = ue-max s p e
