@@ -1,0 +1,4 @@
+pub mod Lawful
+pub mod CodecLaws
+pub mod EachLaws
+pub mod ElementLaws
