@@ -6,3 +6,4 @@ pub mod AlfLaws
 pub mod LmcsLaws
 pub mod ScalingLaws
 pub mod KeepLaws
+pub mod ApsLaws

@@ -1,0 +1,173 @@
+-- The set up to its extension flag is lawful, up to what is inferred.
+use mathlib.Core.Path.{_≡_, refl, sym, ap, _∙_}
+use mathlib.Core.Bool.{Bool, true, false, cond, _&&_}
+use mathlib.Core.List.{List, [], _∷_, _++_}
+use Prim.Native.Nat.{ℕ, zero, suc, _+_, _*_, _≤_, _<_}
+use native.Mathlib.Omega.{arith}
+use lib.Dec.{leb, lit≤}
+use lib.ListN.{length, length-append}
+use Rattle.bitstream.specs.Outcome.{Outcome, value, _then_}
+use Rattle.bitstream.specs.Bits.{Holds, AreBits}
+use Rattle.aps.specs.Codec.{Codec, u, _▷_, via, judged, provided, never}
+use Rattle.aps.specs.Elements.{flag}
+use Rattle.aps.specs.AlfSyntax.{alf}
+use Rattle.aps.specs.LmcsSyntax.{lmcs}
+use Rattle.aps.specs.ScalingSyntax.{Entry, scalingSyntax, keep, look}
+use Rattle.aps.specs.ApsSyntax.{Payload, ofAlf, ofLmcs, ofScaling, kindOf, alfIn, lmcsIn, entriesIn, scalingIn, isAlf, isLmcs, isScaling, payload, ApsData, apsSyntax, toAps, numberOf, payloadOf, fromAps, aps, inferred}
+use Rattle.aps.specs.declared.aps.ApsKind.{ApsKind}
+use Rattle.aps.specs.declared.aps.VvcAps.{VvcAps}
+use Rattle.aps.proofs.Lawful.{Lawful}
+use Rattle.aps.proofs.CodecLaws.{never-true, and-left, and-right, then-value, u-law, ▷-law, judged-law, provided-law, never-law, via-law, most-law}
+use Rattle.aps.proofs.ElementLaws.{flag-law}
+use Rattle.aps.proofs.AlfLaws.{alf-law}
+use Rattle.aps.proofs.LmcsLaws.{lmcs-law}
+use Rattle.aps.proofs.ScalingLaws.{scalingSyntax-law}
+use Rattle.aps.proofs.KeepLaws.{look-keep}
+
+-- the bits of a payload at most
+abbrev pub payloadBits : ℕ → ℕ
+payloadBits zero = 6645
+payloadBits (suc zero) = 285
+payloadBits (suc (suc k)) = 23432
+
+pub payload-law : (kind id : ℕ) (chroma : Bool) → Lawful (payload kind id chroma) (payloadBits kind)
+unfolding payload
+payload-law zero id chroma = judged-law (λ p. leb id 7) (via-law ofAlf alfIn isAlf (alf-law chroma) (λ d o. (refl, refl)) (λ p o t. back p t))
+  where
+    back : (p : Payload) → isAlf p ≡ true → ofAlf (alfIn p) ≡ p
+    back (ofAlf d) t = refl
+    back (ofLmcs d) t = never-true t
+    back (ofScaling d) t = never-true t
+payload-law (suc zero) id chroma = provided-law (leb id 3) (via-law ofLmcs lmcsIn isLmcs (lmcs-law chroma) (λ d o. (refl, refl)) (λ p o t. back p t))
+  where
+    back : (p : Payload) → isLmcs p ≡ true → ofLmcs (lmcsIn p) ≡ p
+    back (ofAlf d) t = never-true t
+    back (ofLmcs d) t = refl
+    back (ofScaling d) t = never-true t
+payload-law (suc (suc zero)) id chroma =
+    judged-law (λ p. leb id 7) (via-law ofScaling entriesIn isScaling (scalingSyntax-law chroma) (λ d o. (refl, refl)) (λ p o t. back p t))
+  where
+    back : (p : Payload) → isScaling p ≡ true → ofScaling (entriesIn p) ≡ p
+    back (ofAlf d) t = never-true t
+    back (ofLmcs d) t = never-true t
+    back (ofScaling d) t = refl
+payload-law (suc (suc (suc kind))) id chroma = never-law 3
+
+payloadBits-le : (kind : ℕ) → payloadBits kind ≤ 23432
+payloadBits-le zero = lit≤ tt
+payloadBits-le (suc zero) = lit≤ tt
+payloadBits-le (suc (suc k)) = lit≤ tt
+
+pub apsSyntax-law : Lawful apsSyntax 23442
+unfolding apsSyntax
+apsSyntax-law =
+    ▷-law (u-law 3) λ kind o.
+    ▷-law (u-law 5) λ id o.
+    ▷-law flag-law λ chroma o.
+    ▷-law (most-law (payloadBits-le kind) (payload-law kind id chroma)) λ d o.
+    flag-law
+
+-- a payload that its kind's syntax takes is of that kind
+payload-kind : (kind id : ℕ) (chroma : Bool) (p : Payload) → (payload kind id chroma) .ok p ≡ true
+    → (numberOf (kindOf p) ≡ kind) × (payloadOf (kindOf p) chroma (alfIn p) (lmcsIn p) (scalingIn p) ≡ p)
+unfolding payload judged provided via never
+payload-kind zero id chroma p o = go p (and-right ((alf chroma) .ok (alfIn p)) (isAlf p) (and-left ((alf chroma) .ok (alfIn p) && isAlf p) (leb id 7) o))
+  where
+    go : (p : Payload) → isAlf p ≡ true → (numberOf (kindOf p) ≡ 0) × (payloadOf (kindOf p) chroma (alfIn p) (lmcsIn p) (scalingIn p) ≡ p)
+    go (ofAlf d) t = (refl, refl)
+    go (ofLmcs d) t = never-true t
+    go (ofScaling d) t = never-true t
+payload-kind (suc zero) id chroma p o = go p (and-right ((lmcs chroma) .ok (lmcsIn p)) (isLmcs p) (and-right (leb id 3) ((lmcs chroma) .ok (lmcsIn p) && isLmcs p) o))
+  where
+    go : (p : Payload) → isLmcs p ≡ true → (numberOf (kindOf p) ≡ 1) × (payloadOf (kindOf p) chroma (alfIn p) (lmcsIn p) (scalingIn p) ≡ p)
+    go (ofAlf d) t = never-true t
+    go (ofLmcs d) t = (refl, refl)
+    go (ofScaling d) t = never-true t
+payload-kind (suc (suc zero)) id chroma p o =
+    let r = and-left ((scalingSyntax chroma) .ok (entriesIn p) && isScaling p) (leb id 7) o in
+    go p (and-left ((scalingSyntax chroma) .ok (entriesIn p)) (isScaling p) r) (and-right ((scalingSyntax chroma) .ok (entriesIn p)) (isScaling p) r)
+  where
+    go : (p : Payload) → (scalingSyntax chroma) .ok (entriesIn p) ≡ true → isScaling p ≡ true
+        → (numberOf (kindOf p) ≡ 2) × (payloadOf (kindOf p) chroma (alfIn p) (lmcsIn p) (scalingIn p) ≡ p)
+    go (ofAlf d) o t = never-true t
+    go (ofLmcs d) o t = never-true t
+    go (ofScaling d) o t = (refl, ap ofScaling (look-keep chroma d o))
+payload-kind (suc (suc (suc kind))) id chroma p o = never-true o
+
+payload-ok : (x : ApsData) → apsSyntax .ok x ≡ true → (payload (x .0) (x .1 .0) (x .1 .1 .0)) .ok (x .1 .1 .1 .0) ≡ true
+unfolding apsSyntax _▷_
+payload-ok x o =
+    let p = (payload (x .0) (x .1 .0) (x .1 .1 .0)) .ok (x .1 .1 .1 .0) in
+    let e = flag .ok (x .1 .1 .1 .1) in
+    let c = flag .ok (x .1 .1 .0) in
+    let i = (u 5) .ok (x .1 .0) in
+    let k = (u 3) .ok (x .0) in
+    and-left p e (and-right c (p && e) (and-right i (c && (p && e)) (and-right k (i && (c && (p && e))) o)))
+
+from-to : (x : ApsData) → apsSyntax .ok x ≡ true → fromAps (toAps x) ≡ x
+unfolding fromAps toAps
+from-to x o =
+    let (e, e′) = payload-kind (x .0) (x .1 .0) (x .1 .1 .0) (x .1 .1 .1 .0) (payload-ok x o) in
+    λ i. (e i, (x .1 .0, (x .1 .1 .0, (e′ i, x .1 .1 .1 .1))))
+
+-- The laws of the set. Only reading what was written differs from `Lawful`: what is not sent is read as inferred.
+module _ (s : List ℕ) (p : ℕ) where
+  aps-value : (a : VvcAps) (q : ℕ) → aps .read s p ≡ value a q → (x : ApsData) × (apsSyntax .read s p ≡ value x q) × (toAps x ≡ a)
+  unfolding aps via
+  aps-value a q e =
+      let (x, r, ex, e₁) = then-value (apsSyntax .read s p) (λ x q. value (toAps x) q) e in
+      let er : r ≡ q = cc in
+      (x, ex ∙ ap (value x) er, cc)
+
+  pub aps-sound : (a : VvcAps) (q : ℕ) → aps .read s p ≡ value a q → (p ≤ q) × (aps .ok a ≡ true) × (inferred a ≡ a)
+  unfolding aps via inferred
+  aps-sound a q e =
+      let (x, ex, ea) = aps-value a q e in
+      let (l, o) = apsSyntax-law .sound s p x q ex in
+      let f = from-to x o in
+      go x ea l o f
+    where
+      go : (x : ApsData) → toAps x ≡ a → p ≤ q → apsSyntax .ok x ≡ true → fromAps (toAps x) ≡ x
+          → (p ≤ q) × ((apsSyntax .ok (fromAps a) && true) ≡ true) × (toAps (fromAps a) ≡ a)
+      go x ea l o f = rw (← ea, f, o) (l, refl, refl)
+
+  pub aps-exact : (a : VvcAps) (q : ℕ) → aps .read s p ≡ value a q → q < length s * 8 → Holds s p (aps .emit a) × (q ≡ p + length (aps .emit a))
+  unfolding aps via
+  aps-exact a q e h =
+      let (x, ex, ea) = aps-value a q e in
+      let (l, o) = apsSyntax-law .sound s p x q ex in
+      go x ea (from-to x o) (apsSyntax-law .exact s p x q ex h)
+    where
+      go : (x : ApsData) → toAps x ≡ a → fromAps (toAps x) ≡ x → Holds s p (apsSyntax .emit x) × (q ≡ p + length (apsSyntax .emit x))
+          → Holds s p (apsSyntax .emit (fromAps a)) × (q ≡ p + length (apsSyntax .emit (fromAps a)))
+      go x ea f r = rw (← ea, f) r
+
+  pub aps-back : (a : VvcAps) → aps .ok a ≡ true → Holds s p (aps .emit a)
+      → aps .read s p ≡ value (inferred a) (p + length (aps .emit a))
+  unfolding aps via inferred
+  aps-back a o h = rw (apsSyntax-law .back s p (fromAps a) (and-left (apsSyntax .ok (fromAps a)) true o) h)
+
+pub aps-bits : (a : VvcAps) → aps .ok a ≡ true → AreBits (aps .emit a)
+unfolding aps via
+aps-bits a o = apsSyntax-law .bits (fromAps a) (and-left (apsSyntax .ok (fromAps a)) true o)
+
+-- the bits of a set of a kind at most
+abbrev afterKind : ℕ → Codec (ℕ × (Bool × (Payload × Bool)))
+afterKind kind = u 5 ▷ λ id. flag ▷ λ chroma. payload kind id chroma ▷ λ d. flag
+
+afterKind-law : (kind : ℕ) → Lawful (afterKind kind) (5 + (1 + (payloadBits kind + 1)))
+afterKind-law kind = ▷-law (u-law 5) λ id o. ▷-law flag-law λ chroma o. ▷-law (payload-law kind id chroma) λ d o. flag-law
+
+syntax-most : (x : ApsData) → apsSyntax .ok x ≡ true → length (apsSyntax .emit x) ≤ 10 + payloadBits (x .0)
+unfolding apsSyntax _▷_
+syntax-most x o =
+    let oa = and-left ((u 3) .ok (x .0)) ((afterKind (x .0)) .ok (x .1)) o in
+    let ob = and-right ((u 3) .ok (x .0)) ((afterKind (x .0)) .ok (x .1)) o in
+    let a = (u-law 3) .most (x .0) oa in
+    let b = (afterKind-law (x .0)) .most (x .1) ob in
+    let n = length-append ((u 3) .emit (x .0)) ((afterKind (x .0)) .emit (x .1)) in
+    omega arith
+
+pub aps-most : (a : VvcAps) → aps .ok a ≡ true → length (aps .emit a) ≤ 10 + payloadBits (numberOf (a .kind))
+unfolding aps via fromAps
+aps-most a o = syntax-most (fromAps a) (and-left (apsSyntax .ok (fromAps a)) true o)
