@@ -6,6 +6,7 @@ use Prim.Native.Nat.{ℕ, zero, suc, _+_, _*_, _≤_, _<_}
 use native.Mathlib.Omega.{arith}
 use lib.Dec.{leb, lit≤}
 use lib.ListN.{length, length-append}
+use borrow.Author.Tests.{leb-true}
 use Rattle.bitstream.specs.Outcome.{Outcome, value, _then_}
 use Rattle.bitstream.specs.Bits.{Holds, AreBits}
 use Rattle.aps.specs.Codec.{Codec, u, _▷_, via, judged, provided, never}
@@ -53,7 +54,7 @@ payload-law (suc (suc zero)) id chroma =
     back (ofScaling d) t = refl
 payload-law (suc (suc (suc kind))) id chroma = never-law 3
 
-payloadBits-le : (kind : ℕ) → payloadBits kind ≤ 23432
+pub payloadBits-le : (kind : ℕ) → payloadBits kind ≤ 23432
 payloadBits-le zero = lit≤ tt
 payloadBits-le (suc zero) = lit≤ tt
 payloadBits-le (suc (suc k)) = lit≤ tt
@@ -94,7 +95,7 @@ payload-kind (suc (suc zero)) id chroma p o =
     go (ofScaling d) o t = (refl, ap ofScaling (look-keep chroma d o))
 payload-kind (suc (suc (suc kind))) id chroma p o = never-true o
 
-payload-ok : (x : ApsData) → apsSyntax .ok x ≡ true → (payload (x .0) (x .1 .0) (x .1 .1 .0)) .ok (x .1 .1 .1 .0) ≡ true
+pub payload-ok : (x : ApsData) → apsSyntax .ok x ≡ true → (payload (x .0) (x .1 .0) (x .1 .1 .0)) .ok (x .1 .1 .1 .0) ≡ true
 unfolding apsSyntax _▷_
 payload-ok x o =
     let p = (payload (x .0) (x .1 .0) (x .1 .1 .0)) .ok (x .1 .1 .1 .0) in
@@ -104,7 +105,7 @@ payload-ok x o =
     let k = (u 3) .ok (x .0) in
     and-left p e (and-right c (p && e) (and-right i (c && (p && e)) (and-right k (i && (c && (p && e))) o)))
 
-from-to : (x : ApsData) → apsSyntax .ok x ≡ true → fromAps (toAps x) ≡ x
+pub from-to : (x : ApsData) → apsSyntax .ok x ≡ true → fromAps (toAps x) ≡ x
 unfolding fromAps toAps
 from-to x o =
     let (e, e′) = payload-kind (x .0) (x .1 .0) (x .1 .1 .0) (x .1 .1 .1 .0) (payload-ok x o) in
@@ -112,7 +113,7 @@ from-to x o =
 
 -- The laws of the set. Only reading what was written differs from `Lawful`: what is not sent is read as inferred.
 module _ (s : List ℕ) (p : ℕ) where
-  aps-value : (a : VvcAps) (q : ℕ) → aps .read s p ≡ value a q → (x : ApsData) × (apsSyntax .read s p ≡ value x q) × (toAps x ≡ a)
+  pub aps-value : (a : VvcAps) (q : ℕ) → aps .read s p ≡ value a q → (x : ApsData) × (apsSyntax .read s p ≡ value x q) × (toAps x ≡ a)
   unfolding aps via
   aps-value a q e =
       let (x, r, ex, e₁) = then-value (apsSyntax .read s p) (λ x q. value (toAps x) q) e in
@@ -171,3 +172,47 @@ syntax-most x o =
 pub aps-most : (a : VvcAps) → aps .ok a ≡ true → length (aps .emit a) ≤ 10 + payloadBits (numberOf (a .kind))
 unfolding aps via fromAps
 aps-most a o = syntax-most (fromAps a) (and-left (apsSyntax .ok (fromAps a)) true o)
+
+-- ---- the id
+
+-- the largest id of a kind
+abbrev pub largestId : ApsKind → ℕ
+largestId ApsKind.Alf = 7
+largestId ApsKind.Lmcs = 3
+largestId ApsKind.Scaling = 7
+
+payload-id : (kind : ApsKind) (id : ℕ) (chroma : Bool) (p : Payload) → (payload (numberOf kind) id chroma) .ok p ≡ true → id ≤ largestId kind
+unfolding payload judged provided via
+payload-id ApsKind.Alf id chroma p o = leb-true id 7 (and-right ((alf chroma) .ok (alfIn p) && isAlf p) (leb id 7) o)
+payload-id ApsKind.Lmcs id chroma p o = leb-true id 3 (and-left (leb id 3) ((lmcs chroma) .ok (lmcsIn p) && isLmcs p) o)
+payload-id ApsKind.Scaling id chroma p o = leb-true id 7 (and-right ((scalingSyntax chroma) .ok (entriesIn p) && isScaling p) (leb id 7) o)
+
+-- a set that the writer takes has an id of its kind
+pub aps-id : (a : VvcAps) → aps .ok a ≡ true → a .«aps_adaptation_parameter_set_id» ≤ largestId (a .kind)
+unfolding aps via fromAps
+aps-id a o =
+    payload-id (a .kind) (a .«aps_adaptation_parameter_set_id») (a .«aps_chroma_present_flag») _ (payload-ok (fromAps a) (and-left (apsSyntax .ok (fromAps a)) true o))
+
+-- ---- what is inferred
+
+-- what is inferred changes nothing that is written
+pub inferred-kept : (a : VvcAps) → aps .ok a ≡ true → fromAps (inferred a) ≡ fromAps a
+unfolding aps via inferred
+inferred-kept a o = from-to (fromAps a) (and-left (apsSyntax .ok (fromAps a)) true o)
+
+pub inferred-flag : (a : VvcAps) → (inferred a) .«aps_extension_flag» ≡ a .«aps_extension_flag»
+unfolding inferred toAps fromAps
+inferred-flag a = refl
+
+-- an ALF or LMCS set's own record is as it was; of a scaling set's, what the writer looks at is kept
+pub inferred-alf : (a : VvcAps) → a .kind ≡ ApsKind.Alf → (inferred a) .alf ≡ a .alf
+unfolding inferred toAps fromAps
+inferred-alf a e = ap (λ (k : ApsKind). alfIn (payloadOf k (a .«aps_chroma_present_flag») (a .alf) (a .lmcs) (a .scaling))) e
+
+pub inferred-lmcs : (a : VvcAps) → a .kind ≡ ApsKind.Lmcs → (inferred a) .lmcs ≡ a .lmcs
+unfolding inferred toAps fromAps
+inferred-lmcs a e = ap (λ (k : ApsKind). lmcsIn (payloadOf k (a .«aps_chroma_present_flag») (a .alf) (a .lmcs) (a .scaling))) e
+
+pub inferred-scaling : (a : VvcAps) → a .kind ≡ ApsKind.Scaling → (inferred a) .scaling ≡ keep (look (a .«aps_chroma_present_flag») (a .scaling))
+unfolding inferred toAps fromAps
+inferred-scaling a e = ap (λ (k : ApsKind). scalingIn (payloadOf k (a .«aps_chroma_present_flag») (a .alf) (a .lmcs) (a .scaling))) e

@@ -115,12 +115,21 @@ module _ {A B : Type 0} where
       let et : t ≡ q = cc in
       rw (← ex, ← et) (r, ea, eb)
 
-  pub both-value : (x : Outcome A) (g : A → ℕ → Outcome B) (y : A × B) (q : ℕ) → (x then λ a q. g a q then λ b r. value (a, b) r) ≡ value y q
+  both-value : (x : Outcome A) (g : A → ℕ → Outcome B) (y : A × B) (q : ℕ) → (x then λ a q. g a q then λ b r. value (a, b) r) ≡ value y q
       → (r : ℕ) × (x ≡ value (y .0) r) × (g (y .0) r ≡ value (y .1) q)
   both-value x g y q e =
       let (a, r, ea, e₁) = then-value x (λ a q. g a q then λ b r. value (a, b) r) e in
       let (b, t, eb, e₂) = then-value (g a r) (λ b r. value (a, b) r) e₁ in
       same-both x g y q a r b t ea eb e₂
+
+  module _ (c : Codec A) (k : A → Codec B) (s : List ℕ) (p : ℕ) where
+    pub ▷-halves : (x : A × B) (q : ℕ) → (c ▷ k) .read s p ≡ value x q → (r : ℕ) × (c .read s p ≡ value (x .0) r) × ((k (x .0)) .read s r ≡ value (x .1) q)
+    unfolding _▷_
+    ▷-halves x q e = both-value (c .read s p) (λ a q. (k a) .read s q) x q e
+
+    pub ▷-joined : (a : A) (r : ℕ) (b : B) (q : ℕ) → c .read s p ≡ value a r → (k a) .read s r ≡ value b q → (c ▷ k) .read s p ≡ value (a, b) q
+    unfolding _▷_
+    ▷-joined a r b q e f = rw (e, f)
 
   pub ▷-law : {c : Codec A} {k : A → Codec B} {m m′ : ℕ} → Lawful c m → ((a : A) → c .ok a ≡ true → Lawful (k a) m′) → Lawful (c ▷ k) (m + m′)
   unfolding _▷_
@@ -139,13 +148,9 @@ module _ {A B : Type 0} where
             omega (arith, length-append (c .emit (x .0)) ((k (x .0)) .emit (x .1)), C .most (x .0) oa, (K (x .0) oa) .most (x .1) ob);
       }
     where
-      halves : (s : List ℕ) (p : ℕ) (x : A × B) (q : ℕ) → (c ▷ k) .read s p ≡ value x q
-          → (r : ℕ) × (c .read s p ≡ value (x .0) r) × ((k (x .0)) .read s r ≡ value (x .1) q)
-      halves s p x q e = both-value (c .read s p) (λ a q. (k a) .read s q) x q e
-
       sound : (s : List ℕ) (p : ℕ) (x : A × B) (q : ℕ) → (c ▷ k) .read s p ≡ value x q → (p ≤ q) × ((c ▷ k) .ok x ≡ true)
       sound s p x q e =
-          let (r, ea, eb) = halves s p x q e in
+          let (r, ea, eb) = ▷-halves c k s p x q e in
           let (l, oa) = C .sound s p (x .0) r ea in
           let (l′, ob) = (K (x .0) oa) .sound s r (x .1) q eb in
           (omega arith, and-both _ _ oa ob)
@@ -153,7 +158,7 @@ module _ {A B : Type 0} where
       exact : (s : List ℕ) (p : ℕ) (x : A × B) (q : ℕ) → (c ▷ k) .read s p ≡ value x q → q < length s * 8
           → Holds s p ((c ▷ k) .emit x) × (q ≡ p + length ((c ▷ k) .emit x))
       exact s p x q e h =
-          let (r, ea, eb) = halves s p x q e in
+          let (r, ea, eb) = ▷-halves c k s p x q e in
           let (l, oa) = C .sound s p (x .0) r ea in
           let (l′, ob) = (K (x .0) oa) .sound s r (x .1) q eb in
           let (ha, na) = C .exact s p (x .0) r ea (omega arith) in

@@ -7,3 +7,6 @@ pub mod LmcsLaws
 pub mod ScalingLaws
 pub mod KeepLaws
 pub mod ApsLaws
+pub mod PackLaws
+pub mod ExtensionLaws
+pub mod RbspLaws
