@@ -10,3 +10,4 @@ pub mod ApsLaws
 pub mod PackLaws
 pub mod ExtensionLaws
 pub mod RbspLaws
+pub mod LocalLaws
