@@ -1,19 +1,19 @@
 -- alf_data( ) is lawful.
-use mathlib.Core.Path.{_≡_, refl, sym, ap, _∙_}
+use mathlib.Core.Path.{_≡_, refl, sym, _∙_}
 use mathlib.Core.Bool.{Bool, true, false, cond, _&&_}
 use mathlib.Core.List.{List}
-use Prim.Native.Nat.{ℕ, suc, _+_, _-_, _/_, _^_, _≤_, _<_}
+use Prim.Native.Nat.{ℕ, _+_, _-_, _/_, _≤_}
 use native.Mathlib.Omega.{arith}
 use lib.Dec.{leb, ltb, eqb, lit<}
 use lib.ListN.{length}
-use borrow.Author.Tests.{leb-true, leb-false, eqb-true, eq-eqb}
+use borrow.Author.Tests.{leb-false, eqb-true, eq-eqb}
 use lib.Count.{leadingZeros}
 use Rattle.bitstream.specs.Fields.{ueZeros}
-use Rattle.aps.specs.Codec.{Codec, u, ue, _▷_, via, judged, when, each}
-use Rattle.aps.specs.Elements.{flag, ueTo, signed, noFlag, noNumber, noSigned, noPair, noList, apart, flat, firsts, seconds, zipped}
-use Rattle.aps.specs.AlfSyntax.{ceilLog2, coefficient, Luma, lumaSyntax, noLuma, toLuma, fromLuma, luma, alternative, chromaSyntax, noChroma, toChroma, fromChroma, chroma, ccSyntax, noCc, toCc, fromCc, cc, alfSyntax, toAlf, fromAlf, alf}
-use Rattle.aps.proofs.Lawful.{Lawful, IsInferred}
-use Rattle.aps.proofs.CodecLaws.{and-left, and-right, u-law, ue-law, ▷-law, judged-law, when-law, via-law, most-law}
+use Rattle.aps.specs.Codec.{Codec, u, _▷_, when, each}
+use Rattle.aps.specs.Elements.{noNumber, noSigned, firsts, seconds}
+use Rattle.aps.specs.AlfSyntax.{ceilLog2, coefficient, lumaSyntax, toLuma, fromLuma, luma, alternative, chromaSyntax, toChroma, fromChroma, chroma, ccSyntax, toCc, fromCc, cc, alfSyntax, toAlf, fromAlf, alf}
+use Rattle.aps.proofs.Lawful.{Lawful}
+use Rattle.aps.proofs.CodecLaws.{and-left, and-right, u-law, ▷-law, judged-law, when-law, via-law, most-law}
 use Rattle.aps.proofs.EachLaws.{each-law, each-length}
 use Rattle.aps.proofs.ElementLaws.{zeros-mono, flag-law, ueTo-law, ueTo-le, signed-law, noFlag-is, noNumber-is, noSigned-is, noPair-is, noList-is, apart-law, flat-law, zipped-there, length-firsts, length-seconds, firsts-zipped, seconds-zipped}
 

@@ -1,19 +1,19 @@
 -- The set up to its extension flag is lawful, up to what is inferred.
-use mathlib.Core.Path.{_≡_, refl, sym, ap, _∙_}
-use mathlib.Core.Bool.{Bool, true, false, cond, _&&_}
-use mathlib.Core.List.{List, [], _∷_, _++_}
+use mathlib.Core.Path.{_≡_, refl, ap, _∙_}
+use mathlib.Core.Bool.{Bool, true, _&&_}
+use mathlib.Core.List.{List}
 use Prim.Native.Nat.{ℕ, zero, suc, _+_, _*_, _≤_, _<_}
 use native.Mathlib.Omega.{arith}
 use lib.Dec.{leb, lit≤}
 use lib.ListN.{length, length-append}
 use borrow.Author.Tests.{leb-true}
-use Rattle.bitstream.specs.Outcome.{Outcome, value, _then_}
+use Rattle.bitstream.specs.Outcome.{value}
 use Rattle.bitstream.specs.Bits.{Holds, AreBits}
 use Rattle.aps.specs.Codec.{Codec, u, _▷_, via, judged, provided, never}
 use Rattle.aps.specs.Elements.{flag}
 use Rattle.aps.specs.AlfSyntax.{alf}
 use Rattle.aps.specs.LmcsSyntax.{lmcs}
-use Rattle.aps.specs.ScalingSyntax.{Entry, scalingSyntax, keep, look}
+use Rattle.aps.specs.ScalingSyntax.{scalingSyntax, keep, look}
 use Rattle.aps.specs.ApsSyntax.{Payload, ofAlf, ofLmcs, ofScaling, kindOf, alfIn, lmcsIn, entriesIn, scalingIn, isAlf, isLmcs, isScaling, payload, ApsData, apsSyntax, toAps, numberOf, payloadOf, fromAps, aps, inferred}
 use Rattle.aps.specs.declared.aps.ApsKind.{ApsKind}
 use Rattle.aps.specs.declared.aps.VvcAps.{VvcAps}

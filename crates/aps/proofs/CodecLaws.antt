@@ -1,7 +1,7 @@
 -- Each combinator keeps the laws: what is composed of them is lawful by the same composition.
 use mathlib.Core.Path.{_≡_, refl, sym, ap, _∙_}
 use mathlib.Core.Bool.{Bool, true, false, cond, _&&_}
-use mathlib.Core.List.{List, [], _++_}
+use mathlib.Core.List.{List, []}
 use Prim.Native.Nat.{ℕ, _+_, _*_, _^_, _≤_, _<_}
 use native.Mathlib.Nat.{add-zero, add-assoc, mod-eq-of-lt}
 use native.Mathlib.Omega.{arith}
@@ -10,7 +10,7 @@ use lib.ListN.{length, length-append}
 use borrow.Author.Tests.{ltb-true, ltb-false, lt-ltb}
 use Rattle.bitstream.specs.Outcome.{Outcome, value, refused, _then_}
 use Rattle.bitstream.specs.Bits.{fieldAt, Holds, AreBits}
-use Rattle.bitstream.specs.Fields.{readU, readUe, zerosAt, suffixAt}
+use Rattle.bitstream.specs.Fields.{readU, zerosAt, suffixAt}
 use Rattle.bitstream.proofs.FieldLaws.{field-lt}
 use Rattle.bitstream.proofs.CodeLaws.{value-refused, ue-value, ue-max}
 use Rattle.bitstream.proofs.WriteLaws.{length-field, length-ue-most}

@@ -1,19 +1,19 @@
 -- The fields that the payloads are made of are lawful.
 use mathlib.Core.Path.{_≡_, refl, sym, ap, _∙_}
 use mathlib.Core.Bool.{Bool, true, false, cond, not, _&&_}
-use mathlib.Core.List.{List, [], _∷_, _++_}
+use mathlib.Core.List.{List, [], _∷_}
 use Prim.Native.Nat.{ℕ, zero, suc, _+_, _*_, _^_, _≤_, _<_}
 use native.Mathlib.Nat.{zero-mul, suc-mul}
 use native.Mathlib.Omega.{arith}
 use lib.Dec.{leb, eqb, ltb}
 use lib.Pow.{pow-mono}
-use lib.ListN.{length, replicate, take, drop, length-replicate, length-append, length-drop, take-append-drop}
+use lib.ListN.{length, replicate, drop, length-replicate, length-append, length-drop, take-append-drop}
 use lib.Seq.{take-at, drop-at}
 use borrow.Author.Tests.{leb-true, leb-false, ltb-true, eqb-true, eq-eqb}
 use Rattle.bitstream.specs.Fields.{ueZeros, ueBits, seValue, seCode}
 use Rattle.bitstream.proofs.WriteLaws.{ue-top, length-ue}
 use Rattle.bitstream.proofs.Signed.{se-code, code-se}
-use Rattle.aps.specs.Codec.{Codec, u, ue, _▷_, via, judged, Inferred, when, eachFrom, each}
+use Rattle.aps.specs.Codec.{Codec, u, ue, judged, Inferred, eachFrom, each}
 use Rattle.aps.specs.Elements.{flag, ueTo, se, noFlag, noNumber, noPair, signed, noSigned, firsts, seconds, zipped, apart, every, noList, joined, rowsOf, flat}
 use Rattle.aps.proofs.Lawful.{Lawful, IsInferred}
 use Rattle.aps.proofs.CodecLaws.{never-true, and-left, and-right, and-both, u-law, ue-law, ▷-law, judged-law, when-law, via-law, bound-law}

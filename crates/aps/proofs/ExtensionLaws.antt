@@ -1,8 +1,8 @@
 -- A set with extension flag 1 ends with that 1 bit, so what was read of it stands whole in the input.
-use mathlib.Core.Path.{_≡_, refl, sym, ap, _∙_}
-use mathlib.Core.Bool.{Bool, true, false, not}
+use mathlib.Core.Path.{_≡_, sym, ap, _∙_}
+use mathlib.Core.Bool.{Bool, true, not}
 use mathlib.Core.List.{List, _++_, append-assoc}
-use Prim.Native.Nat.{ℕ, suc, _+_, _*_, _≤_, _<_}
+use Prim.Native.Nat.{ℕ, _+_, _*_, _<_}
 use native.Mathlib.Nat.{add-zero}
 use native.Mathlib.Omega.{arith}
 use lib.Dec.{eqb}
@@ -13,7 +13,7 @@ use Rattle.bitstream.specs.Bits.{bitAt, fieldAt, fieldBits, Holds}
 use Rattle.bitstream.specs.Fields.{readU}
 use Rattle.bitstream.proofs.FieldLaws.{field-lt, field-none, field-snoc, bit-inside}
 use Rattle.bitstream.proofs.WriteLaws.{length-field}
-use Rattle.bitstream.proofs.HoldLaws.{holds-append, holds-join, holds-field}
+use Rattle.bitstream.proofs.HoldLaws.{holds-append, holds-join}
 use Rattle.bitstream.proofs.RoundTrip.{u-exact}
 use Rattle.aps.specs.Codec.{Codec, u, _▷_, via}
 use Rattle.aps.specs.Elements.{flag}

@@ -4,23 +4,19 @@ use mathlib.Core.Bool.{Bool, true, false, cond, not, _&&_, _||_}
 use mathlib.Core.List.{List, [], _∷_, _++_, map}
 use Prim.Native.Nat.{ℕ, zero, suc, _+_, _*_, _-_, _≤_, _<_}
 use native.Mathlib.Omega.{arith}
-use lib.Dec.{leb, ltb, eqb, lit<, lit≤}
-use lib.IntN.{ℤ, pos, negsuc, _+ℤ_, _-ℤ_, +ℤ-negℤ-cancel, -ℤ-+ℤ-cancel}
-use lib.Signed.{leZ}
+use lib.Dec.{ltb, eqb}
+use lib.IntN.{ℤ, pos, negsuc}
 use lib.ListN.{length, getD, take, drop, replicate, length-append, length-replicate, length-map, List·getD-map}
 use lib.Seq.{take-at, drop-at, drop-drop, take-take, length-take-le, getD-drop}
 use native.Mathlib.Nat.{add-zero, zero-add, suc-add, add-suc, zero-mul, suc-mul}
-use borrow.Author.Tests.{leb-true, leb-false, ltb-true, ltb-false, eqb-true, eq-eqb}
-use lib.Count.{leadingZeros}
-use Rattle.bitstream.specs.Fields.{ueZeros, ueBits, seCode}
-use Rattle.aps.specs.Codec.{Codec, u, ue, _▷_, via, judged, when, eachFrom, each}
-use Rattle.aps.specs.Elements.{flag, ueTo, se, seIn, noFlag, noNumber, noPair, joined}
-use Rattle.aps.specs.ScalingSyntax.{diagScan, diagNext, filled, keep, looked, tabulate, look, skipped, entries, maxIdDelta, idCoded, eqZ, just, cons, uncons, someLeft, step, sums, Entry, coefficients, noEntries, entrySyntax, copied, noEntry, scalingSyntax}
+use borrow.Author.Tests.{ltb-true}
+use Rattle.aps.specs.Codec.{Codec, _▷_, via, when}
+use Rattle.aps.specs.Elements.{flag, ueTo, seIn, noFlag, noNumber, noPair, joined}
+use Rattle.aps.specs.ScalingSyntax.{filled, keep, looked, tabulate, look, skipped, entries, maxIdDelta, idCoded, eqZ, just, step, sums, Entry, coefficients, noEntries, entrySyntax, noEntry, scalingSyntax}
 use Rattle.aps.specs.declared.scaling_list.VvcScalingListData.{VvcScalingListData}
-use Rattle.aps.proofs.Lawful.{Lawful, IsInferred, total}
-use Rattle.aps.proofs.CodecLaws.{and-left, and-right, u-law, ▷-law, judged-law, when-law, when-bits, via-law, bound-law, never-true}
-use Rattle.aps.proofs.EachLaws.{each-law, each-length, each-at}
-use Rattle.aps.proofs.ElementLaws.{ue-most, flag-law, ueTo-law, se-law, noFlag-is, noNumber-is, noPair-is, Wide}
+use Rattle.aps.proofs.CodecLaws.{and-left, and-right, never-true}
+use Rattle.aps.proofs.EachLaws.{each-length, each-at}
+use Rattle.aps.proofs.ElementLaws.{noPair-is, Wide}
 use Rattle.aps.proofs.ScalingLaws.{eqZ-only, just-is, noEntries-is, noEntry-is}
 
 sums-length : (id i n : ℕ) (prev : ℤ) (l : List ℤ) → (sums id i n prev) .ok l ≡ true → length l ≡ n

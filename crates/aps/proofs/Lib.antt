@@ -11,3 +11,4 @@ pub mod PackLaws
 pub mod ExtensionLaws
 pub mod RbspLaws
 pub mod LocalLaws
+pub mod Marked

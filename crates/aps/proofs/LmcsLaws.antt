@@ -1,16 +1,14 @@
 -- lmcs_data( ) is lawful.
-use mathlib.Core.Path.{_≡_, refl, sym, ap, _∙_}
-use mathlib.Core.Bool.{Bool, true, false, _&&_}
-use mathlib.Core.List.{List}
-use Prim.Native.Nat.{ℕ, _+_, _-_, _≤_}
+use mathlib.Core.Path.{_≡_, refl}
+use mathlib.Core.Bool.{Bool, true, _&&_}
+use Prim.Native.Nat.{_+_, _-_, _≤_}
 use native.Mathlib.Omega.{arith}
-use lib.Dec.{leb, eqb, ltb, lit<}
+use lib.Dec.{leb, lit<}
 use lib.ListN.{length, length-append}
-use borrow.Author.Tests.{leb-true, eqb-true, eq-eqb}
+use borrow.Author.Tests.{leb-true}
 use lib.Count.{leadingZeros}
 use Rattle.bitstream.specs.Fields.{ueZeros, ueBits}
-use Rattle.aps.specs.Codec.{Codec, u, ue, _▷_, via, judged, when, each}
-use Rattle.aps.specs.Elements.{signed, noSigned, firsts, seconds, zipped}
+use Rattle.aps.specs.Codec.{Codec, ue, _▷_, judged}
 use Rattle.aps.specs.LmcsSyntax.{LmcsHead, inRange, codedFrom, lmcsSyntax, toLmcs, fromLmcs, lmcs}
 use Rattle.aps.proofs.Lawful.{Lawful}
 use Rattle.aps.proofs.CodecLaws.{and-left, and-right, u-law, ue-law, ▷-law, judged-law, when-law, via-law, bound-law, most-law}

@@ -14,11 +14,9 @@ use Rattle.bitstream.proofs.CallLaws.{trailing-value}
 use Rattle.bitstream.proofs.HoldLaws.{Same, holds-same}
 use Rattle.bitstream.proofs.LocalLaws.{same-append, trailing-local}
 use Rattle.aps.specs.Codec.{Codec}
-use Rattle.aps.specs.ApsSyntax.{aps}
 use Rattle.aps.specs.Rbsp.{readRbsp}
 use Rattle.aps.specs.declared.aps.VvcAps.{VvcAps}
 use Rattle.aps.proofs.Lawful.{Lawful}
-use Rattle.aps.proofs.ApsLaws.{aps-sound}
 use Rattle.aps.proofs.ExtensionLaws.{aps-whole, aps-last}
 use Rattle.aps.proofs.RbspLaws.{rbsp-extended, rbsp-plain, rbsp-sound, rbsp-end, setBits, read-stands, stands-read}
 

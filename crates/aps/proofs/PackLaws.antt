@@ -1,5 +1,5 @@
 -- Bits packed into bytes stand there, and bits that stand in whole bytes are packed to these bytes.
-use mathlib.Core.Path.{_≡_, refl, sym, ap, _∙_}
+use mathlib.Core.Path.{_≡_, refl, sym, _∙_}
 use mathlib.Core.Logic.{⊎-elim}
 use mathlib.Core.List.{List, [], _∷_}
 use Prim.Native.Nat.{ℕ, zero, suc, _+_, _*_, _/_, _≤_, _<_}
@@ -7,7 +7,7 @@ use native.Mathlib.Nat.{eq-or-lt-of-le}
 use native.Mathlib.Omega.{arith}
 use lib.ListN.{length, getD, take, replicate, length-replicate}
 use lib.Seq.{length-take-le, getD-take, ext-getD}
-use Rattle.bitstream.specs.Bits.{bitAt, fieldAt, Holds, AreBits, pack}
+use Rattle.bitstream.specs.Bits.{fieldAt, Holds, AreBits, pack}
 use Rattle.bitstream.proofs.FieldLaws.{field-byte}
 use Rattle.bitstream.proofs.KeepLaws.{Bytes, bytes-puts, puts-hold}
 use Rattle.bitstream.proofs.HoldLaws.{Same, field-same}

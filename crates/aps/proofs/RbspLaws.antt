@@ -5,9 +5,9 @@ use mathlib.Core.List.{List, [], _∷_, _++_}
 use Prim.Native.Nat.{ℕ, suc, _+_, _*_, _-_, _/_, _%_, _^_, _≤_, _<_}
 use native.Mathlib.Nat.{zero-add, zero-div}
 use native.Mathlib.Omega.{arith}
-use lib.ListN.{length, getD, take, replicate, length-append}
+use lib.ListN.{length, getD, take, length-append}
 use Rattle.bitstream.specs.Outcome.{Outcome, value, refused, _then_}
-use Rattle.bitstream.specs.Bits.{bitAt, Holds, AreBits, pack}
+use Rattle.bitstream.specs.Bits.{bitAt, Holds, AreBits}
 use Rattle.bitstream.specs.Fields.{readTrailing, trailingBits}
 use Rattle.bitstream.proofs.CodeLaws.{value-refused}
 use Rattle.bitstream.proofs.CallLaws.{trailing-value}
@@ -22,7 +22,7 @@ use Rattle.aps.specs.ApsSyntax.{numberOf, aps, inferred}
 use Rattle.aps.specs.Rbsp.{closed, readRbsp, rbspBits, rbspBytes}
 use Rattle.aps.specs.declared.aps.ApsKind.{ApsKind}
 use Rattle.aps.specs.declared.aps.VvcAps.{VvcAps}
-use Rattle.aps.proofs.CodecLaws.{then-value, never-true}
+use Rattle.aps.proofs.CodecLaws.{then-value}
 use Rattle.aps.proofs.ApsLaws.{payloadBits, largestId, aps-sound, aps-exact, aps-back, aps-bits, aps-most, aps-id, inferred-kept, inferred-flag}
 use Rattle.aps.proofs.ExtensionLaws.{aps-whole}
 use Rattle.aps.proofs.PackLaws.{pack-holds, pack-bytes, pack-is}
