@@ -1,5 +1,5 @@
 -- The set up to its extension flag is lawful, up to what is inferred.
-use mathlib.Core.Path.{_≡_, refl, sym, ap, _∙_}
+use mathlib.Core.Path.{_≡_, refl, ap}
 use mathlib.Core.Bool.{Bool, true, _&&_}
 use mathlib.Core.List.{List}
 use Prim.Native.Nat.{ℕ, zero, suc, _+_, _*_, _≤_, _<_}
@@ -18,7 +18,8 @@ use Rattle.aps.specs.ApsSyntax.{Payload, ofAlf, ofLmcs, ofScaling, kindO
 use Rattle.aps.specs.declared.aps.ApsKind.{ApsKind}
 use Rattle.aps.specs.declared.aps.VvcAps.{VvcAps}
 use Rattle.aps.proofs.Lawful.{Lawful}
-use Rattle.aps.proofs.CodecLaws.{never-true, and-left, and-right, then-value, u-law, ▷-law, judged-law, provided-law, never-law, via-law, most-law}
+use Rattle.aps.proofs.FieldLaws.{u-law}
+use Rattle.aps.proofs.CodecLaws.{never-true, and-left, and-right, ▷-law, judged-law, provided-law, never-law, via-value, via-law, most-law}
 use Rattle.aps.proofs.ElementLaws.{flag-law}
 use Rattle.aps.proofs.AlfLaws.{alf-law}
 use Rattle.aps.proofs.LmcsLaws.{lmcs-law}
@@ -112,14 +113,8 @@ from-to x o =
 module _ (s : List ℕ) (p : ℕ) where
   -- a set is read as the syntax of what the writer looks at
   pub aps-value : (a : VvcAps) (q : ℕ) → aps .read s p ≡ value a q → (apsSyntax .read s p ≡ value (fromAps a) q) × (inferred a ≡ a)
-  unfolding aps via inferred
-  aps-value a q e =
-      let (x, r, ex, e₁) = then-value (apsSyntax .read s p) (λ x q. value (toAps x) q) e in
-      let er : r ≡ q = cc in
-      let ea : toAps x ≡ a = cc in
-      let (l, o) = apsSyntax-law .sound s p x r ex in
-      let f : fromAps a ≡ x = ap fromAps (sym ea) ∙ from-to x o in
-      (cc, ap toAps f ∙ ea)
+  unfolding aps inferred
+  aps-value a q e = via-value toAps fromAps (λ a. true) apsSyntax-law from-to s p a q e
 
   -- a set that is read is one that the writer takes, and is as it is inferred
   pub aps-sound : (a : VvcAps) (q : ℕ) → aps .read s p ≡ value a q → (p ≤ q) × (aps .ok a ≡ true) × (inferred a ≡ a)
@@ -128,6 +123,11 @@ module _ (s : List ℕ) (p : ℕ) where
       let (ex, f) = aps-value a q e in
       let (l, o) = apsSyntax-law .sound s p (fromAps a) q ex in
       (l, rw o, f)
+
+  -- even past the end no more bits are read than are written for the set
+  pub aps-short : (a : VvcAps) (q : ℕ) → aps .read s p ≡ value a q → q ≤ p + length (aps .emit a)
+  unfolding aps via
+  aps-short a q e = apsSyntax-law .short s p (fromAps a) q (aps-value a q e .0)
 
   -- a set that is read before the end stands there as it is written
   pub aps-exact : (a : VvcAps) (q : ℕ) → aps .read s p ≡ value a q → q < length s * 8 → Holds s p (aps .emit a) × (q ≡ p + length (aps .emit a))

@@ -2,21 +2,15 @@
 use mathlib.Core.Path.{_≡_, refl, sym, ap, _∙_}
 use mathlib.Core.Bool.{Bool, true, false, cond, _&&_}
 use mathlib.Core.List.{List, []}
-use Prim.Native.Nat.{ℕ, _+_, _*_, _^_, _≤_, _<_}
-use native.Mathlib.Nat.{add-zero, add-assoc, mod-eq-of-lt}
+use Prim.Native.Nat.{ℕ, _+_, _*_, _≤_, _<_}
+use native.Mathlib.Nat.{add-zero, add-assoc}
 use native.Mathlib.Omega.{arith}
-use lib.Dec.{ltb}
 use lib.ListN.{length, length-append}
-use borrow.Author.Tests.{ltb-true, ltb-false, lt-ltb}
 use Rattle.bitstream.specs.Outcome.{Outcome, value, refused, _then_}
-use Rattle.bitstream.specs.Bits.{fieldAt, Holds, AreBits}
-use Rattle.bitstream.specs.Fields.{readU, zerosAt, suffixAt}
-use Rattle.bitstream.proofs.FieldLaws.{field-lt}
-use Rattle.bitstream.proofs.CodeLaws.{value-refused, ue-value, ue-max}
-use Rattle.bitstream.proofs.WriteLaws.{length-field, length-ue-most}
-use Rattle.bitstream.proofs.HoldLaws.{bits-field, bits-ue, bits-append, holds-append, holds-join}
-use Rattle.bitstream.proofs.RoundTrip.{u-holds, ue-holds, u-exact, ue-exact}
-use Rattle.aps.specs.Codec.{Codec, u, ue, _▷_, via, judged, Inferred, when, provided, never}
+use Rattle.bitstream.specs.Bits.{Holds, AreBits}
+use Rattle.bitstream.proofs.CodeLaws.{value-refused}
+use Rattle.bitstream.proofs.HoldLaws.{bits-append, holds-append, holds-join}
+use Rattle.aps.specs.Codec.{Codec, _▷_, via, judged, Inferred, when, provided, never}
 use Rattle.aps.proofs.Lawful.{Lawful, IsInferred}
 
 -- ---- what an answer and a test say
@@ -52,58 +46,6 @@ pub bits-none : AreBits []
 unfolding AreBits
 bits-none = tt
 
--- ---- the fields
-
--- u(n)
-pub u-law : (n : ℕ) → Lawful (u n) n
-unfolding u readU
-u-law n =
-    record {
-      sound = λ s p a q e.
-          let e₁ : fieldAt s p n ≡ a = cc in
-          let e₂ : p + n ≡ q = cc in
-          (omega arith, lt-ltb a (2 ^ n) (omega (arith, field-lt s p n)));
-      exact = λ s p a q e h.
-          let e₁ : fieldAt s p n ≡ a = cc in
-          let e₂ : p + n ≡ q = cc in
-          (rw e₁ at (u-exact s p n (omega arith)), rw (length-field a n) (sym e₂));
-      back = λ s p a o h. u-holds s p a n h ∙ rw (length-field a n, mod-eq-of-lt (ltb-true a (2 ^ n) o));
-      bits = λ a o. bits-field a n;
-      most = λ a o. omega (arith, length-field a n);
-    }
-
-suffix-ge : (s : List ℕ) (p z : ℕ) → p + z ≤ suffixAt s p z
-unfolding suffixAt
-suffix-ge s p z = go (ltb (p + z) (length s * 8))
-  where
-    go : (t : Bool) → p + z ≤ cond t (p + z + 1) (p + z)
-    go true = omega arith
-    go false = omega arith
-
--- a ue has a bit where the input has one
-suffix-gt : (s : List ℕ) (p z : ℕ) → suffixAt s p z < length s * 8 → p < suffixAt s p z
-unfolding suffixAt
-suffix-gt s p z = go (ltb (p + z) (length s * 8)) refl
-  where
-    go : (t : Bool) → ltb (p + z) (length s * 8) ≡ t → cond t (p + z + 1) (p + z) < length s * 8 → p < cond t (p + z + 1) (p + z)
-    go true e h = omega arith
-    go false e h = absurd (omega (arith, ltb-false (p + z) (length s * 8) e))
-
--- ue(v)
-pub ue-law : Lawful ue 63
-unfolding ue
-ue-law =
-    record {
-      sound = λ s p v q e.
-          (omega (arith, ue-value s p (sym e) .2, suffix-ge s p (zerosAt s p 32)), lt-ltb v 4294967295 (ue-max s p (sym e)));
-      exact = λ s p v q e h.
-          let l = ue-value s p (sym e) .2 in
-          ue-exact s p (sym e) (omega (arith, suffix-gt s p (zerosAt s p 32) (omega arith))) (omega arith);
-      back = λ s p v o h. ue-holds s p v (ltb-true v 4294967295 o) h;
-      bits = λ v o. bits-ue v;
-      most = λ v o. length-ue-most v (ltb-true v 4294967295 o);
-    }
-
 -- ---- c, then what its value says
 
 module _ {A B : Type 0} where
@@ -123,19 +65,26 @@ module _ {A B : Type 0} where
       same-both x g y q a r b t ea eb e₂
 
   module _ (c : Codec A) (k : A → Codec B) (s : List ℕ) (p : ℕ) where
+    -- both were read, one after the other
     pub ▷-halves : (x : A × B) (q : ℕ) → (c ▷ k) .read s p ≡ value x q → (r : ℕ) × (c .read s p ≡ value (x .0) r) × ((k (x .0)) .read s r ≡ value (x .1) q)
     unfolding _▷_
     ▷-halves x q e = both-value (c .read s p) (λ a q. (k a) .read s q) x q e
 
+    -- one read after the other is both read
     pub ▷-joined : (a : A) (r : ℕ) (b : B) (q : ℕ) → c .read s p ≡ value a r → (k a) .read s r ≡ value b q → (c ▷ k) .read s p ≡ value (a, b) q
     unfolding _▷_
     ▷-joined a r b q e f = rw (e, f)
 
+  -- one after the other: the bits add up
   pub ▷-law : {c : Codec A} {k : A → Codec B} {m m′ : ℕ} → Lawful c m → ((a : A) → c .ok a ≡ true → Lawful (k a) m′) → Lawful (c ▷ k) (m + m′)
   unfolding _▷_
   ▷-law {c} {k} {m} {m′} C K =
       record {
         sound = λ s p x q e. sound s p x q e;
+        short = λ s p x q e.
+            let (r, ea, eb) = ▷-halves c k s p x q e in
+            let oa = C .sound s p (x .0) r ea .1 in
+            omega (arith, C .short s p (x .0) r ea, (K (x .0) oa) .short s r (x .1) q eb, length-append (c .emit (x .0)) ((k (x .0)) .emit (x .1)));
         exact = λ s p x q e h. exact s p x q e h;
         back = λ s p x o h. back s p x o h;
         bits = λ x o.
@@ -179,6 +128,7 @@ module _ {A B : Type 0} where
 -- ---- c under a test or a flag
 
 module _ {A : Type 0} where
+  -- a value that was judged passed its test
   judged-value : (x : Outcome A) (test : A → Bool) (a : A) (q : ℕ) → (x then λ a q. cond (test a) (value a q) (refused 2)) ≡ value a q
       → (x ≡ value a q) × (test a ≡ true)
   judged-value (refused n) test a q e = absurd (value-refused (sym e))
@@ -188,6 +138,7 @@ module _ {A : Type 0} where
       go true et e = (e, let ea : a′ ≡ a = cc in rw (← ea) et)
       go false et e = absurd (value-refused (sym e))
 
+  -- a test takes away values
   pub judged-law : (test : A → Bool) {c : Codec A} {m : ℕ} → Lawful c m → Lawful (judged test c) m
   unfolding judged
   judged-law test {c} C =
@@ -196,22 +147,25 @@ module _ {A : Type 0} where
             let (ea, et) = judged-value (c .read s p) test a q e in
             let (l, o) = C .sound s p a q ea in
             (l, and-both _ _ o et);
+        short = λ s p a q e. C .short s p a q (judged-value (c .read s p) test a q e .0);
         exact = λ s p a q e h. C .exact s p a q (judged-value (c .read s p) test a q e .0) h;
         back = λ s p a o h. rw (C .back s p a (and-left (c .ok a) (test a) o) h, and-right (c .ok a) (test a) o);
         bits = λ a o. C .bits a (and-left (c .ok a) (test a) o);
         most = λ a o. C .most a (and-left (c .ok a) (test a) o);
       }
 
+  -- what is sent, or inferred
   pub when-law : (b : Bool) {d : Inferred A} {c : Codec A} {m : ℕ} → IsInferred d → (b ≡ true → Lawful c m) → Lawful (when b d c) m
   unfolding when
   when-law true D C =
-      let C′ = C refl in record { sound = C′ .sound; exact = C′ .exact; back = C′ .back; bits = C′ .bits; most = C′ .most }
+      let C′ = C refl in record { sound = C′ .sound; short = C′ .short; exact = C′ .exact; back = C′ .back; bits = C′ .bits; most = C′ .most }
   when-law false {d} {c} {m} D C =
       record {
         sound = λ s p a q e.
             let ea : d .default ≡ a = cc in
             let eq : p ≡ q = cc in
             (omega arith, rw (← ea) (D .itself));
+        short = λ s p a q e. let eq : p ≡ q = cc in omega arith;
         exact = λ s p a q e h. let eq : p ≡ q = cc in (holds-none s p, omega arith);
         back = λ s p a o h. rw (D .only a o, add-zero p);
         bits = λ a o. bits-none;
@@ -223,23 +177,27 @@ module _ {A : Type 0} where
   when-bits true D C = when-law true D (λ e. C)
   when-bits false D C = when-law false D (λ e. never-true e)
 
+  -- nothing is read or taken
   pub never-law : (n : ℕ) {m : ℕ} → Lawful (never {A = A} n) m
   unfolding never
   never-law n =
       record {
         sound = λ s p a q e. absurd (value-refused (sym e));
+        short = λ s p a q e. absurd (value-refused (sym e));
         exact = λ s p a q e h. absurd (value-refused (sym e));
         back = λ s p a o h. never-true o;
         bits = λ a o. bits-none;
         most = λ a o. never-true o;
       }
 
+  -- all or nothing is read and taken
   pub provided-law : (b : Bool) {c : Codec A} {m : ℕ} → Lawful c m → Lawful (provided b c) m
   unfolding provided
-  provided-law true C = record { sound = C .sound; exact = C .exact; back = C .back; bits = C .bits; most = C .most }
+  provided-law true C = record { sound = C .sound; short = C .short; exact = C .exact; back = C .back; bits = C .bits; most = C .most }
   provided-law false C =
       record {
         sound = λ s p a q e. absurd (value-refused (sym e));
+        short = λ s p a q e. absurd (value-refused (sym e));
         exact = λ s p a q e h. absurd (value-refused (sym e));
         back = λ s p a o h. never-true o;
         bits = λ a o. never-true o;
@@ -248,31 +206,43 @@ module _ {A : Type 0} where
 
   -- another bound
   pub bound-law : {c : Codec A} {m : ℕ} (b : ℕ) → ((a : A) → c .ok a ≡ true → length (c .emit a) ≤ b) → Lawful c m → Lawful c b
-  bound-law b h C = record { sound = C .sound; exact = C .exact; back = C .back; bits = C .bits; most = h }
+  bound-law b h C = record { sound = C .sound; short = C .short; exact = C .exact; back = C .back; bits = C .bits; most = h }
 
   -- a larger bound
   pub most-law : {c : Codec A} {m m′ : ℕ} → m ≤ m′ → Lawful c m → Lawful c m′
   most-law {m′ = m′} h C = bound-law m′ (λ a o. omega (arith, C .most a o)) C
 
+  -- reading, even past the end, ends within the bound
+  pub ends-by : {c : Codec A} {m : ℕ} → Lawful c m → (s : List ℕ) (p : ℕ) (a : A) (q : ℕ) → c .read s p ≡ value a q → q ≤ p + m
+  ends-by C s p a q e = omega (arith, C .short s p a q e, C .most a (C .sound s p a q e .1))
+
 -- ---- the same values in another shape
 
-module _ {A B : Type 0} where
-  pub via-law : (to : A → B) (from : B → A) (test : B → Bool) {c : Codec A} {m : ℕ} → Lawful c m
-      → ((a : A) → c .ok a ≡ true → (from (to a) ≡ a) × (test (to a) ≡ true))
+module _ {A B : Type 0} (to : A → B) (from : B → A) (test : B → Bool) {c : Codec A} {m : ℕ} (C : Lawful c m) where
+  -- what is read is c's value for it, if that is had back
+  pub via-value : ((a : A) → c .ok a ≡ true → from (to a) ≡ a) → (s : List ℕ) (p : ℕ) (b : B) (q : ℕ) → (via to from test c) .read s p ≡ value b q
+      → (c .read s p ≡ value (from b) q) × (to (from b) ≡ b)
+  unfolding via
+  via-value there s p b q e =
+      let (a, r, ea, e₁) = then-value (c .read s p) (λ a q. value (to a) q) e in
+      let er : r ≡ q = cc in
+      let eb : to a ≡ b = cc in
+      let f : from b ≡ a = ap from (sym eb) ∙ there a (C .sound s p a r ea .1) in
+      (cc, ap to f ∙ eb)
+
+  -- values that are had back both ways
+  pub via-law : ((a : A) → c .ok a ≡ true → (from (to a) ≡ a) × (test (to a) ≡ true))
       → ((b : B) → c .ok (from b) ≡ true → test b ≡ true → to (from b) ≡ b)
       → Lawful (via to from test c) m
   unfolding via
-  via-law to from test {c} C there back =
+  via-law there back =
       record {
         sound = λ s p b q e.
-            let (a, ea, eb) = shaped s p b q e in
-            let (l, o) = C .sound s p a q ea in
-            let (ft, passed) = there a o in
-            (l, and-both (c .ok (from b)) (test b) (rw (← eb, ft) o) (rw (← eb) passed));
-        exact = λ s p b q e h.
-            let (a, ea, eb) = shaped s p b q e in
-            let (l, o) = C .sound s p a q ea in
-            moved s p q a b eb (there a o .0) (C .exact s p a q ea h);
+            let (ea, eb) = shaped s p b q e in
+            let (l, o) = C .sound s p (from b) q ea in
+            (l, and-both (c .ok (from b)) (test b) o (rw eb at (there (from b) o .1)));
+        short = λ s p b q e. C .short s p (from b) q (shaped s p b q e .0);
+        exact = λ s p b q e h. C .exact s p (from b) q (shaped s p b q e .0) h;
         back = λ s p b o h.
             let ob = and-left (c .ok (from b)) (test b) o in
             rw (C .back s p (from b) ob h, back b ob (and-right (c .ok (from b)) (test b) o));
@@ -280,12 +250,5 @@ module _ {A B : Type 0} where
         most = λ b o. C .most (from b) (and-left (c .ok (from b)) (test b) o);
       }
     where
-      shaped : (s : List ℕ) (p : ℕ) (b : B) (q : ℕ) → (c .read s p then λ a q. value (to a) q) ≡ value b q → (a : A) × (c .read s p ≡ value a q) × (to a ≡ b)
-      shaped s p b q e =
-          let (a, r, ea, e₁) = then-value (c .read s p) (λ a q. value (to a) q) e in
-          let er : r ≡ q = cc in
-          (a, ea ∙ ap (value a) er, cc)
-
-      moved : (s : List ℕ) (p q : ℕ) (a : A) (b : B) → to a ≡ b → from (to a) ≡ a → Holds s p (c .emit a) × (q ≡ p + length (c .emit a))
-          → Holds s p (c .emit (from b)) × (q ≡ p + length (c .emit (from b)))
-      moved s p q a b eb ft r = rw (← eb, ft) r
+      shaped : (s : List ℕ) (p : ℕ) (b : B) (q : ℕ) → (via to from test c) .read s p ≡ value b q → (c .read s p ≡ value (from b) q) × (to (from b) ≡ b)
+      shaped = via-value (λ a o. there a o .0)

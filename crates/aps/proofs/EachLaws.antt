@@ -55,6 +55,7 @@ module _ {A : Type 0} (c : Codec A) (cs : Codec (List A)) where
     cons-bits (x ∷ l) o =
         bits-append (c .emit x) (cs .emit l) (C .bits x (and-left (c .ok x) (cs .ok l) o)) (CS .bits l (and-right (c .ok x) (cs .ok l) o))
 
+    -- the first value and the others are lawful together
     cons-law : Lawful (record { read = consRead; emit = consEmit (c .emit) (cs .emit); ok = consOk (c .ok) (cs .ok) }) (m + m′)
     cons-law =
         record {
@@ -63,6 +64,9 @@ module _ {A : Type 0} (c : Codec A) (cs : Codec (List A)) where
               let (n, oa) = C .sound s p x r ea in
               let (n′, ob) = CS .sound s r xs q eb in
               (omega arith, rw el (and-both _ _ oa ob));
+          short = λ s p l q e.
+              let (x, xs, r, el, ea, eb) = cons-value s p l q e in
+              rw el (omega (arith, C .short s p x r ea, CS .short s r xs q eb, length-append (c .emit x) (cs .emit xs)));
           exact = λ s p l q e h.
               let (x, xs, r, el, ea, eb) = cons-value s p l q e in
               let (n, oa) = C .sound s p x r ea in
@@ -78,11 +82,13 @@ module _ {A : Type 0} (c : Codec A) (cs : Codec (List A)) where
 -- ---- n values
 
 module _ {A : Type 0} where
+  -- n lawful values: the bounds add up
   pub each-law : (i n : ℕ) {k : ℕ → Codec A} {m : ℕ → ℕ} → ((j : ℕ) → j < i + n → Lawful (k j) (m j)) → Lawful (eachFrom i n k) (total i n m)
   unfolding eachFrom
   each-law i zero {k} {m} K =
       record {
         sound = λ s p a q e. let ea : [] ≡ a = cc in let eq : p ≡ q = cc in (omega arith, rw (← ea));
+        short = λ s p a q e. let eq : p ≡ q = cc in omega arith;
         exact = λ s p a q e h. let eq : p ≡ q = cc in (holds-none s p, omega arith);
         back = λ s p a o h. rw add-zero (nil a p o);
         bits = λ a o. bits-none;

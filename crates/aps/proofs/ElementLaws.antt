@@ -16,9 +16,11 @@ use Rattle.bitstream.proofs.Signed.{se-code, code-se}
 use Rattle.aps.specs.Codec.{Codec, u, ue, judged, Inferred, eachFrom, each}
 use Rattle.aps.specs.Elements.{flag, ueTo, se, noFlag, noNumber, noPair, signed, noSigned, firsts, seconds, zipped, apart, every, noList, joined, rowsOf, flat}
 use Rattle.aps.proofs.Lawful.{Lawful, IsInferred}
-use Rattle.aps.proofs.CodecLaws.{never-true, and-left, and-right, and-both, u-law, ue-law, ▷-law, judged-law, when-law, via-law, bound-law}
+use Rattle.aps.proofs.FieldLaws.{u-law, ue-law}
+use Rattle.aps.proofs.CodecLaws.{never-true, and-left, and-right, and-both, ▷-law, judged-law, when-law, via-law, bound-law}
 use Rattle.aps.proofs.EachLaws.{each-length}
 
+-- a flag is one bit
 pub flag-law : Lawful flag 1
 unfolding flag u
 flag-law = via-law (λ v. not (eqb v 0)) (λ b. cond b 1 0) (λ b. true) (u-law 1) (λ v o. there v (ltb-true v 2 o)) (λ b o t. back b)
@@ -50,14 +52,17 @@ zeros-mono x y l h =
 pub ue-most : (most x : ℕ) → most < 4294967295 → x ≤ most → length (ueBits x) ≤ 2 * ueZeros most + 1
 ue-most most x h l = omega (arith, length-ue x, zeros-mono x most l h)
 
+-- a ue in 0..most that is taken is in it
 pub ueTo-le : (most v : ℕ) → (ueTo most) .ok v ≡ true → v ≤ most
 unfolding ueTo judged ue
 ueTo-le most v o = leb-true v most (and-right (ltb v 4294967295) (leb v most) o)
 
+-- a ue in 0..most is lawful
 pub ueTo-law : (most : ℕ) → most < 4294967295 → Lawful (ueTo most) (2 * ueZeros most + 1)
 unfolding ueTo judged ue
 ueTo-law most h = bound-law (2 * ueZeros most + 1) (λ v o. ue-most most v h (ueTo-le most v o)) (judged-law (λ v. leb v most) ue-law)
 
+-- false alone is inferred for a flag
 pub noFlag-is : IsInferred noFlag
 noFlag-is = record { itself = refl; only = only }
   where
@@ -65,9 +70,11 @@ noFlag-is = record { itself = refl; only = only }
     only true e = sym e
     only false e = refl
 
+-- 0 alone for a number
 pub noNumber-is : IsInferred noNumber
 noNumber-is = record { itself = refl; only = λ a e. eqb-true a 0 e }
 
+-- both parts for a pair
 pub noPair-is : {A B : Type 0} {d : Inferred A} {e : Inferred B} → IsInferred d → IsInferred e → IsInferred (noPair d e)
 noPair-is {d = d} {e = e} D E =
     record {
@@ -78,18 +85,22 @@ noPair-is {d = d} {e = e} D E =
           λ i. (a i, b i);
     }
 
+-- 0 with no sign for a magnitude and its sign
 pub noSigned-is : IsInferred noSigned
 noSigned-is = noPair-is noNumber-is noFlag-is
 
+-- a magnitude and its sign: one bit more
 pub signed-law : {c : Codec ℕ} {m : ℕ} → Lawful c m → Lawful (signed c) (m + 1)
 unfolding signed
 signed-law C = ▷-law C (λ v o. when-law (not (eqb v 0)) noFlag-is (λ s. flag-law))
 
+-- se(v) is lawful
 pub se-law : Lawful se 63
 unfolding se
 se-law = via-law seValue seCode (λ z. true) ue-law (λ k o. (code-se k, refl)) (λ z o t. se-code z)
 
 module _ {A B : Type 0} where
+  -- two arrays beside each other, and one of pairs, there and back
   pub zipped-there : (l : List (A × B)) → zipped (firsts l) (seconds l) ≡ l
   zipped-there [] = refl
   zipped-there (x ∷ l) = ap {B = List (A × B)} (λ t. x ∷ t) (zipped-there l)
@@ -113,6 +124,7 @@ module _ {A B : Type 0} where
   seconds-zipped (x ∷ a) [] e = absurd (omega arith)
   seconds-zipped (x ∷ a) (y ∷ b) e = ap {B = List B} (λ t. y ∷ t) (seconds-zipped a b (omega arith))
 
+  -- an array of pairs held as two arrays is lawful
   pub apart-law : {c : Codec (List (A × B))} {m : ℕ} → Lawful c m → Lawful (apart c) m
   unfolding apart
   apart-law C =
@@ -123,6 +135,7 @@ module _ {A B : Type 0} where
       rw (firsts-zipped (x .0) (x .1) e, seconds-zipped (x .0) (x .1) e))
 
 module _ {A : Type 0} where
+  -- n times one entry, and the test of it
   pub every-replicate : (f : A → Bool) (n : ℕ) (a : A) → f a ≡ true → every f (replicate n a) ≡ true
   every-replicate f zero a e = refl
   every-replicate f (suc n) a e = rw e (every-replicate f n a e)
@@ -134,6 +147,7 @@ module _ {A : Type 0} where
       let e₂ = every-only f a h l (and-right (f x) (every f l) e) in
       λ i. e₁ i ∷ e₂ i
 
+  -- n inferred entries alone for an array
   pub noList-is : (n : ℕ) {d : Inferred A} → IsInferred d → IsInferred (noList n d)
   noList-is n {d} D =
       record {
@@ -149,6 +163,7 @@ module _ {A : Type 0} where
   Wide w [] = Unit {0}
   Wide w (l ∷ ls) = (length l ≡ w) × Wide w ls
 
+  -- rows joined, and taken apart again
   pub rows-joined : (r w : ℕ) (ls : List (List A)) → length ls ≡ r → Wide w ls → rowsOf r w (joined ls) ≡ ls
   rows-joined zero w [] e h = refl
   rows-joined zero w (l ∷ ls) e h = absurd (omega arith)
@@ -156,6 +171,7 @@ module _ {A : Type 0} where
   rows-joined (suc r) w (l ∷ ls) e h =
       rw (take-at l (joined ls) w (h .0), drop-at l (joined ls) w (h .0), rows-joined r w ls (omega arith) (h .1))
 
+  -- and back
   pub joined-rows : (r w : ℕ) (l : List A) → length l ≡ r * w → joined (rowsOf r w l) ≡ l
   joined-rows zero w [] e = refl
   joined-rows zero w (x ∷ l) e = absurd (omega (arith, zero-mul w))
@@ -184,6 +200,7 @@ module _ {A B : Type 0} where
       let r = each-wide (suc i) n w k h l (and-right ((k i) .ok x) ((eachFrom (suc i) n k) .ok l) o) in
       ((a .0, r .0), (a .1, r .1))
 
+  -- rows of pairs held as two flat arrays are lawful
   pub flat-law : (r w : ℕ) (k : ℕ → Codec (List A × List B)) {m : ℕ}
       → ((j : ℕ) (x : List A × List B) → (k j) .ok x ≡ true → (length (x .0) ≡ w) × (length (x .1) ≡ w))
       → Lawful (each r k) m → Lawful (flat r w (each r k)) m

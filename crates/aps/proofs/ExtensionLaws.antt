@@ -20,7 +20,8 @@ use Rattle.aps.specs.Elements.{flag}
 use Rattle.aps.specs.ApsSyntax.{Payload, payload, ApsData, apsSyntax, fromAps, aps}
 use Rattle.aps.specs.declared.aps.VvcAps.{VvcAps}
 use Rattle.aps.proofs.Lawful.{Lawful}
-use Rattle.aps.proofs.CodecLaws.{▷-halves, ▷-joined, u-law, ▷-law, most-law}
+use Rattle.aps.proofs.FieldLaws.{u-law}
+use Rattle.aps.proofs.CodecLaws.{▷-halves, ▷-joined, ▷-law, most-law}
 use Rattle.aps.proofs.ElementLaws.{flag-law}
 use Rattle.aps.proofs.ApsLaws.{payloadBits-le, payload-law, aps-value}
 

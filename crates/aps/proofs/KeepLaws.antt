@@ -19,6 +19,7 @@ use Rattle.aps.proofs.EachLaws.{each-length, each-at}
 use Rattle.aps.proofs.ElementLaws.{noPair-is, Wide}
 use Rattle.aps.proofs.ScalingLaws.{eqZ-only, just-is, noEntries-is, noEntry-is}
 
+-- n sums are n
 sums-length : (id i n : ℕ) (prev : ℤ) (l : List ℤ) → (sums id i n prev) .ok l ≡ true → length l ≡ n
 unfolding sums via _▷_
 sums-length id i zero prev l o = each-length 0 0 (λ j. step prev) l o
@@ -30,6 +31,7 @@ sums-length id i (suc n) prev (v ∷ l) o =
     ap suc (sums-length id (suc i) n v l (and-right ((when (not (skipped id i)) (just prev) (step prev)) .ok v) ((sums id (suc i) n v) .ok l) a))
 
 module _ {A : Type 0} where
+  -- a table of a list's entries is the list
   tabulate-is : (i n : ℕ) (f : ℕ → A) (d : A) (l : List A) → length l ≡ n → ((j : ℕ) → j < n → f (i + j) ≡ getD l j d) → tabulate i n f ≡ l
   tabulate-is i zero f d [] e h = refl
   tabulate-is i zero f d (x ∷ l) e h = absurd (omega arith)
@@ -47,6 +49,7 @@ module _ {A : Type 0} where
       let e : suc j * w ≡ w + j * w = omega (arith, suc-mul j w) in
       rw (e, ← drop-drop (j * w) w (l ++ joined ls), drop-at l (joined ls) w (h .0)) (row-at w d ls (h .1) j (omega arith))
 
+-- a filled list has 64 entries
 length-filled : (l : List ℤ) → length (filled l) ≡ 64
 unfolding filled
 length-filled l = length-take-le 64 (l ++ replicate 64 (pos 0)) (omega (arith, length-append l (replicate 64 (pos 0)), length-replicate 64 (pos 0)))
@@ -55,6 +58,7 @@ filled-wide : (es : List Entry) → Wide 64 (map (λ e. filled (e .1 .1 .1 .1)) 
 filled-wide [] = tt
 filled-wide (e ∷ es) = (length-filled (e .1 .1 .1 .1), filled-wide es)
 
+-- and the list at its start
 take-filled : (n : ℕ) (l : List ℤ) → length l ≡ n → n ≤ 64 → take n (filled l) ≡ l
 unfolding filled
 take-filled n l e h = take-take n 64 (l ++ replicate 64 (pos 0)) h ∙ take-at l (replicate 64 (pos 0)) n e
@@ -86,6 +90,7 @@ coefficients-looked id dc l o =
 abbrev lastOk : ℕ → Bool → ℤ × List ℤ → Bool
 lastOk id copy = (when (not copy) (noPair (just (pos 0)) noEntries) (coefficients id)) .ok
 
+-- the last part of an entry that is taken is taken
 last-ok : (id : ℕ) (e : Entry) → (entrySyntax id) .ok e ≡ true → lastOk id (e .0) (e .1 .1 .1) ≡ true
 unfolding entrySyntax _▷_
 last-ok id e o =
@@ -101,12 +106,14 @@ last-ok id e o =
     pred : Bool
     pred = e .1 .0
 
+-- what is looked at of the last part, copied or not
 last-looked : (id : ℕ) (copy : Bool) (x : ℤ × List ℤ) → lastOk id copy x ≡ true
     → _≡_ {A = ℤ × List ℤ} (cond copy (pos 0, []) (cond (ltb 13 id) (x .0) (pos 0), take (entries id) (filled (x .1)))) x
 unfolding when
 last-looked id true x o = sym ((noPair-is (just-is (pos 0)) noEntries-is) .only x o)
 last-looked id false x o = coefficients-looked id (x .0) (x .1) o
 
+-- what is looked at of an entry that is taken is the entry
 entry-looked : (chroma : Bool) (id : ℕ) (e : Entry) → (when (idCoded chroma id) noEntry (entrySyntax id)) .ok e ≡ true
     → looked chroma id (e .0) (e .1 .0) (e .1 .1 .0) (e .1 .1 .1 .0) (filled (e .1 .1 .1 .1)) ≡ e
 unfolding looked when
@@ -127,6 +134,7 @@ looked-dc chroma id copy pred delta dc dc′ row h = rw (go (ltb 13 id) refl)
     go true e = h (ltb-true 13 id e)
     go false e = refl
 
+-- what was read is looked at again as it was read
 pub look-keep : (chroma : Bool) (es : List Entry) → (scalingSyntax chroma) .ok es ≡ true → look chroma (keep es) ≡ es
 unfolding scalingSyntax look keep
 look-keep chroma es o =

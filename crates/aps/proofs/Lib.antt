@@ -1,4 +1,5 @@
 pub mod Lawful
+pub mod FieldLaws
 pub mod CodecLaws
 pub mod EachLaws
 pub mod ElementLaws

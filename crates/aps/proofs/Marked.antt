@@ -85,6 +85,7 @@ abbrev pub given : Row → Row
 given (reads s o) = reads s (readRbsp s)
 given (escapes s t) = escapes s (escape s)
 
+-- document 01, 'Marked bytes'
 unfoldable pub rows : List Row
 rows =
     reads [] (refused 1)
@@ -103,6 +104,7 @@ rows =
     ∷ escapes (0x00 ∷ 0x00 ∷ 0x00 ∷ []) (0x00 ∷ 0x00 ∷ 0x03 ∷ 0x00 ∷ [])
     ∷ []
 
+-- each row is as the definitions give it
 pub marked-rows : map given rows ≡ rows
 unfolding rows bitAt fieldAt readU zeroAt zerosAt suffixAt ueValue ueFrom readUe seValue trailingValue trailingWidth readTrailing escapeFrom leadingZeros u ue _▷_ via judged when eachFrom provided never flag ueTo se seIn signed apart flat inRange lmcsSyntax toLmcs lmcs ceilLog2 coefficient lumaSyntax toLuma luma alternative chromaSyntax toChroma chroma ccSyntax toCc cc alfSyntax toAlf alf diagNext diagScan skipped entries maxIdDelta idCoded step sums coefficients entrySyntax scalingSyntax filled keep zeroAlf zeroLmcs zeroScaling payload apsSyntax toAps aps closed readRbsp
 marked-rows = refl

@@ -37,6 +37,7 @@ module _ (bs : List ℕ) (ab : AreBits bs) where
   unfolding pack
   pack-holds = puts-hold (replicate ((length bs + 7) / 8) 0) 0 bs (omega (arith, room)) ab
 
+  -- and the bytes are bytes
   pub pack-bytes : Bytes (pack bs)
   unfolding pack
   pack-bytes = bytes-puts (replicate ((length bs + 7) / 8) 0) 0 bs (omega (arith, room)) ab (zero-bytes ((length bs + 7) / 8))

@@ -40,6 +40,7 @@ module _ (s : List ℕ) where
   unfolding closed
   closed-plain a r x = ap (λ (b : Bool). cond b (value a r) (readTrailing s r then λ e q. value a q)) x
 
+  -- the set that is closed is the one answered
   closed-same : (a a′ : VvcAps) (r q : ℕ) → closed s a′ r ≡ value a q → a′ ≡ a
   unfolding closed
   closed-same a a′ r q = go (a′ .«aps_extension_flag») (readTrailing s r)
@@ -90,6 +91,7 @@ module _ (s : List ℕ) where
 
 -- ---- the bits that a set is read from
 
+-- with extension flag 0 the trailing bits too
 unfoldable pub setBits : VvcAps → List ℕ
 setBits a = cond (a .«aps_extension_flag») (aps .emit a) (rbspBits a)
 
