@@ -49,6 +49,15 @@ suffix-ge s p z = go (ltb (p + z) (length s * 8))
     go true = omega arith
     go false = omega arith
 
+-- and at most one bit after them
+suffix-le : (s : List ℕ) (p z : ℕ) → suffixAt s p z ≤ p + z + 1
+unfolding suffixAt
+suffix-le s p z = go (ltb (p + z) (length s * 8))
+  where
+    go : (t : Bool) → cond t (p + z + 1) (p + z) ≤ p + z + 1
+    go true = omega arith
+    go false = omega arith
+
 -- a ue has a bit where the input has one
 suffix-gt : (s : List ℕ) (p z : ℕ) → suffixAt s p z < length s * 8 → p < suffixAt s p z
 unfolding suffixAt
@@ -57,15 +66,6 @@ suffix-gt s p z = go (ltb (p + z) (length s * 8)) refl
     go : (t : Bool) → ltb (p + z) (length s * 8) ≡ t → cond t (p + z + 1) (p + z) < length s * 8 → p < cond t (p + z + 1) (p + z)
     go true e h = omega arith
     go false e h = absurd (omega (arith, ltb-false (p + z) (length s * 8) e))
-
--- at most one bit after them
-suffix-le : (s : List ℕ) (p z : ℕ) → suffixAt s p z ≤ p + z + 1
-unfolding suffixAt
-suffix-le s p z = go (ltb (p + z) (length s * 8))
-  where
-    go : (t : Bool) → cond t (p + z + 1) (p + z) ≤ p + z + 1
-    go true = omega arith
-    go false = omega arith
 
 -- z zeros are those of the value that they make
 zeros-value : (z v : ℕ) → z < 32 → v < 2 ^ z → ueZeros (ueValue z v) ≡ z

@@ -2,17 +2,18 @@
 use mathlib.Core.Path.{_≡_, refl, sym, ap, _∙_}
 use mathlib.Core.Bool.{Bool, true, false}
 use mathlib.Core.List.{List, _++_}
-use Prim.Native.Nat.{ℕ, _+_, _*_, _/_, _≤_, _<_}
-use native.Mathlib.Nat.{zero-add}
+use Prim.Native.Nat.{ℕ, _+_, _-_, _*_, _/_, _%_, _^_, _≤_, _<_}
+use native.Mathlib.Nat.{zero-add, zero-div}
 use native.Mathlib.Omega.{arith}
 use lib.ListN.{length, getD}
 use Rattle.bitstream.specs.Outcome.{value}
 use Rattle.bitstream.specs.Bits.{bitAt, Holds}
-use Rattle.bitstream.specs.Fields.{trailingWidth}
+use Rattle.bitstream.specs.Fields.{trailingBits}
 use Rattle.bitstream.proofs.FieldLaws.{bit-inside}
-use Rattle.bitstream.proofs.CallLaws.{trailing-value}
-use Rattle.bitstream.proofs.HoldLaws.{Same, holds-same}
-use Rattle.bitstream.proofs.LocalLaws.{same-append, trailing-local}
+use Rattle.bitstream.proofs.WriteLaws.{length-trailing}
+use Rattle.bitstream.proofs.HoldLaws.{Same, holds-first, holds-same}
+use Rattle.bitstream.proofs.RoundTrip.{trailing-exact}
+use Rattle.bitstream.proofs.LocalLaws.{same-append}
 use Rattle.aps.specs.Codec.{Codec}
 use Rattle.aps.specs.Rbsp.{readRbsp}
 use Rattle.aps.specs.declared.aps.VvcAps.{VvcAps}
@@ -33,21 +34,34 @@ unfolding bitAt
 same-bytes s t q h i l m = rw (h (i / 8) (omega arith))
 
 module _ (s : List ℕ) (a : VvcAps) (q : ℕ) (e : readRbsp s ≡ value a q) where
-  -- the flag 1 or the stop bit is in t, so the set ends inside t
-  ends-inside : (t : List ℕ) → Same s t 0 q → q ≤ length t * 8
-  unfolding trailingWidth
-  ends-inside t h = go (a .«aps_extension_flag») refl
+  -- its last byte has a 1 bit: the extension flag or the stop bit
+  pub read-one : (i : ℕ) × (bitAt s i ≡ 1) × (i < q) × (q ≤ i + (8 - i % 8))
+  unfolding trailingBits
+  read-one = go (a .«aps_extension_flag») refl
     where
-      go : (b : Bool) → a .«aps_extension_flag» ≡ b → q ≤ length t * 8
+      go : (b : Bool) → a .«aps_extension_flag» ≡ b → (i : ℕ) × (bitAt s i ≡ 1) × (i < q) × (q ≤ i + (8 - i % 8))
       go true x =
           let (k, n) = aps-whole s 0 a x q (rbsp-extended s a q e x) in
           let (m, l, o) = aps-last s 0 a x k in
-          omega (arith, bit-inside t (0 + m) (h (0 + m) (omega arith) (omega arith) ∙ o))
+          (0 + m, o, omega arith, omega arith)
       go false x =
           let (r, ea, et) = rbsp-plain s a q e x in
-          let w = trailing-value s r (sym et) in
-          let v = trailing-value t r (sym (trailing-local s t r (sym et) (λ i l m. h i (omega arith) m))) in
-          omega (arith, v .0, w .2)
+          let (h, n) = trailing-exact s r (sym et) in
+          (r, holds-first s r 1 _ h .1, omega (arith, length-trailing r), omega (arith, length-trailing r))
+
+  -- zero bytes are read as no set
+  pub zeros-none : ((i : ℕ) → getD s i 0 ≡ 0) → ⊥
+  unfolding bitAt
+  zeros-none h =
+      let (i, o, l, m) = read-one in
+      let b : 0 / 2 ^ (7 - i % 8) % 2 ≡ 1 = rw (h (i / 8)) at o in
+      omega (arith, zero-div (2 ^ (7 - i % 8)))
+
+  -- that bit is in t too, so the set ends inside t
+  ends-inside : (t : List ℕ) → Same s t 0 q → q ≤ length t * 8
+  ends-inside t h =
+      let (i, o, l, m) = read-one in
+      omega (arith, bit-inside t i (h i (omega arith) l ∙ o))
 
   -- a set that was read is read wherever its bits stand, with the same end
   pub rbsp-local : (t : List ℕ) → Same s t 0 q → readRbsp t ≡ value a q
