@@ -36,8 +36,8 @@ abbrev pub isAps : ℕ → Bool
 isAps t = eqb t 17 || eqb t 18
 
 -- the RBSP of a unit
-abbrev pub payloadOf : List ℕ → List ℕ
-payloadOf u = unescape (drop 2 u)
+abbrev pub rbspOf : List ℕ → List ℕ
+rbspOf u = unescape (drop 2 u)
 
 -- 4; 1 and 2 of the header; 5: the work buffer is shorter than the unit less 2; then the RBSP
 unfoldable pub parseAps : List ℕ → ℕ → Outcome VvcAps
@@ -45,7 +45,7 @@ parseAps u room =
     cond (ltb 65536 (length u)) (refused 4)
     (cond (ltb (length u) 2) (refused 1)
     (cond (isAps (getD u 1 0 / 8))
-    (cond (ltb room (length u - 2)) (refused 5) (readRbsp (payloadOf u)))
+    (cond (ltb room (length u - 2)) (refused 5) (readRbsp (rbspOf u)))
     (refused 2)))
 
 -- the unit got as far as its RBSP
@@ -54,4 +54,4 @@ unescaped u room = cond (ltb 65536 (length u)) false (cond (ltb (length u) 2) fa
 
 -- what is left in the work buffer: the RBSP and then what stood there, or all as it was
 unfoldable pub workAfter : List ℕ → List ℕ → List ℕ
-workAfter u work = cond (unescaped u (length work)) (payloadOf u ++ drop (length (payloadOf u)) work) work
+workAfter u work = cond (unescaped u (length work)) (rbspOf u ++ drop (length (rbspOf u)) work) work
