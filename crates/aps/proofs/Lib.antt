@@ -19,3 +19,4 @@ pub mod Bounds
 pub mod Steps
 pub mod LmcsSteps
 pub mod RbspSteps
+pub mod UnitSteps

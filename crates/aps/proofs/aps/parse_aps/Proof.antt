@@ -1,43 +1,48 @@
+-- `parse_aps`: judged by its header and the room, then the RBSP.
 use borrow.Author.Needs.{needs}
+use mathlib.Core.Path.{sym, _∙_}
+use denote.Ref.{now}
+use lib.ListN.{length}
+use Rattle.aps.specs.Unit.{outcomeJ}
+use Rattle.aps.proofs.Answers.{answered, same-answer, refused-answer}
+use Rattle.aps.proofs.UnitSteps.{judged-lengths, unit-read, unit-refused}
 use Rattle.aps.proofs.aps.parse_aps.Statement.{statement}
 use Rattle.aps.proofs.aps.parse_aps.Tie as tie
-use Rattle.aps.proofs.aps.parse_aps.Reads as reads
-use Rattle.aps.proofs.aps.parse_aps.Lts as lts
-use Rattle.aps.proofs.aps.judge.Reads as judge-reads
-use Rattle.aps.proofs.aps.parse_judged.Reads as parse-judged-reads
-use Rattle.aps.proofs.aps.refuse.Reads as refuse-reads
 
--- src/aps.rt:316:11
 judge-requires : tie.Need-judge-requires
 judge-requires c κs = search needs
 
--- src/aps.rt:317:47
 enum-told : tie.Need-enum-told
 enum-told c = search needs
 
--- src/aps.rt:317:28
 parse-judged-requires : tie.Need-parse-judged-requires
-parse-judged-requires c κs = ?
+parse-judged-requires c κs =
+    let b = c .before .before .before .before .before .before in
+    judged-lengths (now (b .args .unit)) (length (now (b .args .work))) (answered outcomeJ (c .before .enum-told .given .1) (c .before .before .before .judge .ensures))
 
--- src/aps.rt:318:29
 enum-known-why : tie.Need-enum-known-why
 enum-known-why c = search needs
 
--- src/aps.rt:318:37
 refuse-requires : tie.Need-refuse-requires
 refuse-requires c κs = search needs
 
--- src/aps.rt:311:1
 same-length : tie.Need-same-length
 same-length c = search needs
 
--- src/aps.rt:311:1
 returns : tie.Need-returns
-returns c = ?
+returns c =
+    let b = c .before .before .before .before .before .before .before .before .before in
+    let k = c .before .before .parse-judged in
+    let m = unit-read (now (b .args .unit)) (now (b .args .work)) (answered outcomeJ (c .before .before .before .before .enum-told .given .1) (c .before .before .before .before .before .before .judge .ensures)) in
+    let r = same-answer (k .result) (k .ensures .0, k .ensures .1 .0) (m .0) in
+    (r .0, (r .1, k .ensures .1 .1 ∙ sym (m .1)))
 
--- src/aps.rt:311:1
 returns-2 : tie.Need-returns-2
-returns-2 c = ?
+returns-2 c =
+    let b = c .before .before .before .before .before .before .before in
+    let m = unit-refused (now (b .args .unit)) (now (b .args .work)) _ (answered outcomeJ (c .before .before .why .given .1) (c .before .before .before .before .judge .ensures)) in
+    let r = refused-answer (c .refuse .result) _ (c .refuse .ensures) (m .0) in
+    (r .0, (r .1, sym (m .1)))
 
 pub parse-aps-spec : {M : Type 1} → statement M
 parse-aps-spec =

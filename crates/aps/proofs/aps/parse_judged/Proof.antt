@@ -1,67 +1,89 @@
+-- `parse_judged`: the escapes left out, then the RBSP at the start of the work buffer.
 use borrow.Author.Needs.{needs}
+use Prim.Native.Nat.{_-_, _≤_}
+use mathlib.Core.Path.{_≡_, sym, ap, _∙_}
+use mathlib.Core.List.{_++_}
+use denote.Ref.{now}
+use lib.ListN.{length, drop}
+use lib.Seq.{length-take-le}
+use Rattle.bitstream.specs.Outcome.{Outcome, value, refused, number, left}
+use Rattle.bitstream.specs.Escapes.{outcomeSize}
+use Rattle.bitstream.proofs.CodeLaws.{value-refused}
+use Rattle.aps.specs.Unit.{rbspOf}
+use Rattle.aps.proofs.Answers.{answered, same-answer}
+use Rattle.aps.proofs.UnitSteps.{rbsp-put, rbsp-within, rbsp-read}
 use Rattle.aps.proofs.aps.parse_judged.Statement.{statement}
 use Rattle.aps.proofs.aps.parse_judged.Tie as tie
-use Rattle.aps.proofs.aps.parse_judged.Reads as reads
-use Rattle.aps.proofs.aps.parse_judged.Lts as lts
-use Rattle.aps.proofs.aps.parse_aps_rbsp.Reads as parse-aps-rbsp-reads
-use Rattle.aps.proofs.aps.refuse.Reads as refuse-reads
-use Rattle.bitstream.proofs.nal.ebsp_to_rbsp.Reads as ebsp-to-rbsp-reads
 
--- src/aps.rt:304:24
+-- the escapes were left out
+put : (c : tie.After-known-told)
+    → value (rbspOf (now (c .before .before .before .before .before .before .before .before .before .before .args .unit)) ++ drop (length (rbspOf (now (c .before .before .before .before .before .before .before .before .before .before .args .unit)))) (now (c .before .before .before .before .before .before .before .before .before .before .args .work))) (length (rbspOf (now (c .before .before .before .before .before .before .before .before .before .before .args .unit))))
+    ≡ value (c .before .before .before .before .before .ebsp-to-rbsp .last .1 .0) (c .before .n .given .0 .0)
+put c =
+    let b = c .before .before .before .before .before .before .before .before .before .before in
+    let k = c .before .before .before .before .before .ebsp-to-rbsp in
+    sym (rbsp-put (now (b .args .unit)) (now (b .args .work)) (b .pre .1) (b .pre .2)) ∙ answered (λ z. outcomeSize z (k .last .1 .0)) (c .before .n .given .1) (k .ensures .0)
+
+-- the work buffer
+left-is : (c : tie.After-parse-aps-rbsp)
+    → c .before .before .before .before .before .before .before .ebsp-to-rbsp .last .1 .0
+    ≡ rbspOf (now (c .before .before .before .before .before .before .before .before .before .before .before .before .args .unit)) ++ drop (length (rbspOf (now (c .before .before .before .before .before .before .before .before .before .before .before .before .args .unit)))) (now (c .before .before .before .before .before .before .before .before .before .before .before .before .args .work))
+left-is c = ap (left (now (c .before .before .before .before .before .before .before .before .before .before .before .before .args .work))) (sym (put (c .before .before)))
+
 sub-ebsp-to-rbsp : tie.Need-sub-ebsp-to-rbsp
 sub-ebsp-to-rbsp c = search needs
 
--- src/aps.rt:304:24
 part-ebsp-to-rbsp-start : tie.Need-part-ebsp-to-rbsp-start
 part-ebsp-to-rbsp-start c = search needs
 
--- src/aps.rt:304:24
 part-ebsp-to-rbsp-end : tie.Need-part-ebsp-to-rbsp-end
 part-ebsp-to-rbsp-end c = search needs
 
--- src/aps.rt:304:11
 ebsp-to-rbsp-requires : tie.Need-ebsp-to-rbsp-requires
 ebsp-to-rbsp-requires c κs = search needs
 
--- src/aps.rt:305:21
 enum-known-n : tie.Need-enum-known-n
 enum-known-n c = search needs
 
--- src/aps.rt:305:42
 slice-reshare-prefix-parse-aps-rbsp : tie.Need-slice-reshare-prefix-parse-aps-rbsp
-slice-reshare-prefix-parse-aps-rbsp c = ?
+slice-reshare-prefix-parse-aps-rbsp c =
+    let a = c .before .before .before .before .before .before .before .before .before .before .args in
+    rbsp-within (now (a .unit)) (now (a .work)) _ _ (put c)
 
--- src/aps.rt:305:42
 slice-aggregate-parse-aps-rbsp : tie.Need-slice-aggregate-parse-aps-rbsp
-slice-aggregate-parse-aps-rbsp c = ?
+slice-aggregate-parse-aps-rbsp c =
+    let a = c .before .before .before .before .before .before .before .before .before .before .before .args in
+    sym (length-take-le _ _ (rbsp-within (now (a .unit)) (now (a .work)) _ _ (put (c .before))))
 
--- src/aps.rt:305:27
 parse-aps-rbsp-requires : tie.Need-parse-aps-rbsp-requires
 parse-aps-rbsp-requires c κs = search needs
 
--- src/aps.rt:306:23
 enum-known-why : tie.Need-enum-known-why
 enum-known-why c = search needs
 
--- src/aps.rt:306:31
 refuse-requires : tie.Need-refuse-requires
 refuse-requires c κs = search needs
 
--- src/aps.rt:298:1
 same-length : tie.Need-same-length
 same-length c = search needs
 
--- src/aps.rt:298:1
 returns : tie.Need-returns
-returns c = ?
+returns c =
+    let b = c .before .before .before .before .before .before .before .before .before .before .before .before in
+    let u = now (b .args .unit) in
+    let w = now (b .args .work) in
+    let e = put (c .before .before) in
+    let r = same-answer (c .parse-aps-rbsp .result) (c .parse-aps-rbsp .ensures) (rbsp-read u w _ _ (b .pre .1) e) in
+    (r .0, (r .1, left-is c))
 
--- src/aps.rt:298:1
 same-length-2 : tie.Need-same-length-2
 same-length-2 c = search needs
 
--- src/aps.rt:298:1
 returns-2 : tie.Need-returns-2
-returns-2 c = ?
+returns-2 c =
+    let b = c .before .before .before .before .before .before .before .before .before .before .before in
+    let k = c .before .before .before .before .before .before .ebsp-to-rbsp in
+    absurd (value-refused (sym (rbsp-put (now (b .args .unit)) (now (b .args .work)) (b .pre .1) (b .pre .2)) ∙ answered (λ z. outcomeSize z (k .last .1 .0)) (c .before .before .why .given .1) (k .ensures .0)))
 
 pub parse-judged-spec : {M : Type 1} → statement M
 parse-judged-spec =
