@@ -4,8 +4,9 @@ use mathlib.Core.Bool.{Bool, true, false, cond, not}
 use mathlib.Core.List.{List}
 use Prim.Native.Nat.{ℕ, zero, suc, _+_, _≤_, _<_}
 use native.Mathlib.Omega.{arith}
-use borrow.Author.Tests.{le-leb, lt-leb}
+use borrow.Author.Tests.{le-leb, lt-leb, le-ltb, lt-ltb}
 use lib.Dec.{leb, eqb}
+use lib.ListN.{length}
 use Rattle.bitstream.specs.Outcome.{Outcome, value, refused, mapOutcome, _then_}
 use Rattle.bitstream.specs.Bits.{fieldAt}
 use Rattle.bitstream.specs.Fields.{readU}
@@ -15,7 +16,7 @@ use Rattle.aps.specs.AlfSyntax.{alf}
 use Rattle.aps.specs.LmcsSyntax.{lmcs}
 use Rattle.aps.specs.ScalingSyntax.{Entry, scalingSyntax, keep}
 use Rattle.aps.specs.ApsSyntax.{zeroAlf, zeroLmcs, zeroScaling, Payload, ofAlf, ofLmcs, ofScaling, payload, ApsData, apsSyntax, toAps, aps}
-use Rattle.aps.specs.Rbsp.{closed, readRbsp, Headed, withExtension, finished}
+use Rattle.aps.specs.Rbsp.{closed, readRbsp, parseApsRbsp, Headed, withExtension, finished}
 use Rattle.aps.specs.declared.alf.VvcAlfData.{VvcAlfData}
 use Rattle.aps.specs.declared.lmcs.VvcLmcsData.{VvcLmcsData}
 use Rattle.aps.specs.declared.scaling_list.VvcScalingListData.{VvcScalingListData}
@@ -140,3 +141,13 @@ module _ (s : List ℕ) (id : ℕ) (chroma : Bool) where
       go (suc zero) h = absurd (omega arith)
       go (suc (suc zero)) h = absurd (omega arith)
       go (suc (suc (suc k))) h = never-read k id chroma s
+
+-- ---- the limit of the call
+
+pub too-long : (s : List ℕ) → 65536 < length s → parseApsRbsp s ≡ refused 4
+unfolding parseApsRbsp
+too-long s h = rw (lt-ltb _ _ h)
+
+pub in-limits : (s : List ℕ) → length s ≤ 65536 → parseApsRbsp s ≡ readRbsp s
+unfolding parseApsRbsp
+in-limits s h = rw (le-ltb _ _ h)

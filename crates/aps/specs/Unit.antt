@@ -1,13 +1,15 @@
 -- One unit: its header (H.266 7.3.1.2), and the set that it holds (document 01, 'One unit').
-use mathlib.Core.Bool.{Bool, true, false, cond, not, _||_}
+use mathlib.Core.Bool.{Bool, cond, _||_}
 use mathlib.Core.List.{List, _++_}
 use Prim.Native.Nat.{ℕ, _-_, _/_, _%_}
-use lib.Dec.{leb, ltb, eqb}
+use lib.Dec.{ltb, eqb}
 use lib.ListN.{length, getD, drop}
-use Rattle.bitstream.specs.Outcome.{Outcome, value, refused, number}
+use Rattle.bitstream.specs.Outcome.{Outcome, value, refused, number, _then_}
 use Rattle.bitstream.specs.Escapes.{unescape}
 use Rattle.aps.specs.Rbsp.{readRbsp}
 use Rattle.aps.specs.declared.aps.VvcAps.{VvcAps}
+use Rattle.aps.specs.declared.aps.UnitJudged.{UnitJudged}
+use Rattle.aps.specs.declared.aps.UnitJudged.the-variants as Judged
 use Rattle.aps.specs.declared.nal_header.VvcNalHeader.{VvcNalHeader}
 use Rattle.aps.specs.declared.nal_header.HeaderRead.{HeaderRead}
 use Rattle.aps.specs.declared.nal_header.HeaderRead.the-variants.{Header, Refused}
@@ -36,22 +38,30 @@ abbrev pub isAps : ℕ → Bool
 isAps t = eqb t 17 || eqb t 18
 
 -- the RBSP of a unit
-abbrev pub payloadOf : List ℕ → List ℕ
-payloadOf u = unescape (drop 2 u)
+abbrev pub rbspOf : List ℕ → List ℕ
+rbspOf u = unescape (drop 2 u)
 
--- 4; 1 and 2 of the header; 5: the work buffer is shorter than the unit less 2; then the RBSP
-unfoldable pub parseAps : List ℕ → ℕ → Outcome VvcAps
-parseAps u room =
+-- 4; 1 and 2 of the header; 5: the work buffer is shorter than the unit less 2
+unfoldable pub judgedUnit : List ℕ → ℕ → Outcome (Unit {0})
+judgedUnit u room =
     cond (ltb 65536 (length u)) (refused 4)
     (cond (ltb (length u) 2) (refused 1)
     (cond (isAps (getD u 1 0 / 8))
-    (cond (ltb room (length u - 2)) (refused 5) (readRbsp (payloadOf u)))
+    (cond (ltb room (length u - 2)) (refused 5) (value tt 16))
     (refused 2)))
 
--- the unit got as far as its RBSP
-unfoldable pub unescaped : List ℕ → ℕ → Bool
-unescaped u room = cond (ltb 65536 (length u)) false (cond (ltb (length u) 2) false (cond (isAps (getD u 1 0 / 8)) (leb (length u - 2) room) false))
+abbrev pub outcomeJ : UnitJudged → Outcome (Unit {0})
+outcomeJ Judged.Aps = value tt 16
+outcomeJ (Judged.Refused e) = refused (number e)
 
--- what is left in the work buffer: the RBSP and then what stood there, or all as it was
+-- `parse_aps`: then the RBSP
+unfoldable pub parseAps : List ℕ → ℕ → Outcome VvcAps
+parseAps u room = judgedUnit u room then λ e p. readRbsp (rbspOf u)
+
+-- what is left in the work buffer: the RBSP and then what stood there; all as it was where the unit got no further than its header
+abbrev pub workOf : Outcome (Unit {0}) → List ℕ → List ℕ → List ℕ
+workOf (value e p) u work = rbspOf u ++ drop (length (rbspOf u)) work
+workOf (refused n) u work = work
+
 unfoldable pub workAfter : List ℕ → List ℕ → List ℕ
-workAfter u work = cond (unescaped u (length work)) (payloadOf u ++ drop (length (payloadOf u)) work) work
+workAfter u work = workOf (judgedUnit u (length work)) u work

@@ -36,6 +36,12 @@ pub struct VvcAlfData {
     pub cc_cr: VvcAlfCcFilters,
 }
 
+use crate::fields::Stop;
+use bitstream::Refusal;
+ghost use Prim.Native.Nat.{_+_, _≤_};
+ghost use lib.ListN.{length};
+ghost use Rattle.aps.specs.AlfSyntax.{alf};
+ghost use Rattle.aps.specs.Reading.{EndsBy, outcomeStop};
 ghost use mathlib.Core.Path.{_≡_};
 ghost use Rattle.aps.specs.ApsSyntax.{zeroAlf};
 
@@ -73,4 +79,15 @@ pub(crate) fn zero_alf() -> VvcAlfData
             coeff_sign: [false; 28],
         },
     }
+}
+
+pub(crate) struct AlfRead {
+    pub(crate) stop: Stop,
+    pub(crate) alf: VvcAlfData,
+}
+pub(crate) fn read_alf(bytes: &[u8], p: usize, chroma: bool) -> AlfRead
+    requires { ⌜ (length (now bytes) ≤ 65536) × (p ≤ 100) ⌝ }
+    ensures { λ r. ⌜ (outcomeStop (r .stop) (r .alf) ≡ (alf chroma) .read (now (bytes .entry)) p) × EndsBy (outcomeStop (r .stop) (r .alf)) (p + 30000) ⌝ }
+{
+    AlfRead { stop: Stop::Refused(Refusal::InvalidData), alf: zero_alf() }
 }

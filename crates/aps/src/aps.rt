@@ -1,20 +1,30 @@
 // adaptation_parameter_set_rbsp(), H.266 7.3.2.6. After src/h266/aps.rs.
 use crate::alf::VvcAlfData;
+use crate::alf::read_alf;
 use crate::alf::zero_alf;
 use crate::fields::Stop;
 use crate::fields::read_flag;
+use crate::fields::read_u;
 use crate::lmcs::VvcLmcsData;
 use crate::lmcs::read_lmcs;
 use crate::lmcs::zero_lmcs;
 use crate::scaling_list::VvcScalingListData;
+use crate::nal_header::NAL_TYPE_PREFIX_APS;
+use crate::nal_header::NAL_TYPE_SUFFIX_APS;
+use crate::scaling_list::read_scaling;
 use crate::scaling_list::zero_scaling;
+use bitstream::LONGEST_INPUT;
 use bitstream::Refusal;
 use bitstream::bit_reader::BitReader;
 use bitstream::bit_reader::Trailing;
+use bitstream::nal::Size;
+use bitstream::nal::ebsp_to_rbsp;
 ghost use mathlib.Core.Path.{_≡_};
-ghost use Prim.Native.Nat.{_≤_};
-ghost use lib.ListN.{length};
-ghost use Rattle.aps.specs.Rbsp.{closed, finished, readRbsp, Headed};
+ghost use Prim.Native.Nat.{_-_, _≤_};
+ghost use lib.ListN.{length, drop};
+ghost use mathlib.Core.List.{_++_};
+ghost use Rattle.aps.specs.Rbsp.{closed, finished, readRbsp, parseApsRbsp, Headed};
+ghost use Rattle.aps.specs.Unit.{isAps, rbspOf, outcomeJ, judgedUnit, parseAps, workAfter};
 ghost use Rattle.aps.specs.ApsSyntax.{emptySet};
 ghost use Rattle.aps.specs.Reading.{outcomeRead, outcomeAps, setGiven};
 ghost use Rattle.aps.specs.declared.aps.VvcAps.{VvcAps};
@@ -160,5 +170,151 @@ fn lmcs_set(bytes: &[u8], id: u8, chroma: bool) -> ApsReading
             },
         ),
         Stop::Refused(why) => refuse(why),
+    }
+}
+
+// An ALF set: its id is judged after its payload.
+fn alf_set(bytes: &[u8], id: u8, chroma: bool) -> ApsReading
+    requires { ⌜ (length (now bytes) ≤ 65536) × Headed (now bytes) 0 id chroma ⌝ }
+    ensures answer { λ r. ⌜ outcomeAps r ≡ readRbsp (now (bytes .entry)) ⌝ }
+    ensures set { λ r. ⌜ r .set ≡ setGiven (readRbsp (now (bytes .entry))) ⌝ }
+{
+    let read = read_alf(bytes, 9, chroma);
+    let stop = read.stop;
+    let alf = read.alf;
+    match stop {
+        Stop::End(q) => {
+            if Alf::MAX_ID < id {
+                return refuse(Refusal::InvalidData);
+            }
+            ending(
+                bytes,
+                q,
+                VvcAps {
+                    kind: ApsKind::Alf,
+                    aps_adaptation_parameter_set_id: id,
+                    aps_chroma_present_flag: chroma,
+                    aps_extension_flag: false,
+                    alf,
+                    lmcs: zero_lmcs(),
+                    scaling: zero_scaling(),
+                },
+            )
+        }
+        Stop::Refused(why) => refuse(why),
+    }
+}
+
+// A scaling set: its id is judged after its payload.
+fn scaling_set(bytes: &[u8], id: u8, chroma: bool) -> ApsReading
+    requires { ⌜ (length (now bytes) ≤ 65536) × Headed (now bytes) 2 id chroma ⌝ }
+    ensures answer { λ r. ⌜ outcomeAps r ≡ readRbsp (now (bytes .entry)) ⌝ }
+    ensures set { λ r. ⌜ r .set ≡ setGiven (readRbsp (now (bytes .entry))) ⌝ }
+{
+    let read = read_scaling(bytes, 9, chroma);
+    let stop = read.stop;
+    let scaling = read.scaling;
+    match stop {
+        Stop::End(q) => {
+            if Scaling::MAX_ID < id {
+                return refuse(Refusal::InvalidData);
+            }
+            ending(
+                bytes,
+                q,
+                VvcAps {
+                    kind: ApsKind::Scaling,
+                    aps_adaptation_parameter_set_id: id,
+                    aps_chroma_present_flag: chroma,
+                    aps_extension_flag: false,
+                    alf: zero_alf(),
+                    lmcs: zero_lmcs(),
+                    scaling,
+                },
+            )
+        }
+        Stop::Refused(why) => refuse(why),
+    }
+}
+
+// A set out of its RBSP, escapes removed.
+pub fn parse_aps_rbsp(bytes: &[u8]) -> ApsReading
+    ensures answer { λ r. ⌜ outcomeAps r ≡ parseApsRbsp (now (bytes .entry)) ⌝ }
+    ensures set { λ r. ⌜ r .set ≡ setGiven (parseApsRbsp (now (bytes .entry))) ⌝ }
+{
+    if LONGEST_INPUT < bytes.len() {
+        return refuse(Refusal::InputTooLong);
+    }
+    let kind = read_u(bytes, 0, 3) as u8;
+    let id = read_u(bytes, 3, 5) as u8;
+    let chroma = read_flag(bytes, 8);
+    if kind == Alf::NUMBER {
+        return alf_set(bytes, id, chroma);
+    }
+    if kind == Lmcs::NUMBER {
+        return lmcs_set(bytes, id, chroma);
+    }
+    if kind == Scaling::NUMBER {
+        return scaling_set(bytes, id, chroma);
+    }
+    refuse(Refusal::Unsupported)
+}
+
+// A prefix or a suffix APS.
+fn is_aps(unit_type: u8) -> bool
+    ensures { λ r. ⌜ r ≡ isAps «unit_type» ⌝ }
+{
+    if unit_type == NAL_TYPE_PREFIX_APS {
+        return true;
+    }
+    unit_type == NAL_TYPE_SUFFIX_APS
+}
+
+// Whether a unit gets as far as its RBSP.
+pub(crate) enum UnitJudged {
+    Aps,
+    Refused(Refusal),
+}
+
+fn judge(unit: &[u8], room: usize) -> UnitJudged
+    ensures { λ r. ⌜ outcomeJ r ≡ judgedUnit (now (unit .entry)) room ⌝ }
+{
+    if LONGEST_INPUT < unit.len() {
+        return UnitJudged::Refused(Refusal::InputTooLong);
+    }
+    if unit.len() < 2 {
+        return UnitJudged::Refused(Refusal::UnexpectedEnd);
+    }
+    if !is_aps(unit[1] / 8) {
+        return UnitJudged::Refused(Refusal::InvalidData);
+    }
+    if room < unit.len() - 2 {
+        return UnitJudged::Refused(Refusal::OutputTooShort);
+    }
+    UnitJudged::Aps
+}
+
+// The set of a unit that was judged: its RBSP goes to the start of the work buffer.
+fn parse_judged(unit: &[u8], work: &mut [u8]) -> ApsReading
+    requires { ⌜ (2 ≤ length (now unit)) × (length (now unit) ≤ 65536) × (length (now unit) - 2 ≤ length (now work)) ⌝ }
+    ensures answer { λ r. ⌜ outcomeAps r ≡ readRbsp (rbspOf (now (unit .entry))) ⌝ }
+    ensures set { λ r. ⌜ r .set ≡ setGiven (readRbsp (rbspOf (now (unit .entry)))) ⌝ }
+    ensures work { λ _. ⌜ now (work .exit) ≡ rbspOf (now (unit .entry)) ++ drop (length (rbspOf (now (unit .entry)))) (now (work .entry)) ⌝ }
+{
+    match ebsp_to_rbsp(&unit[2..], work) {
+        Size::Bytes(n) => parse_aps_rbsp(&work[..n]),
+        Size::Refused(why) => refuse(why),
+    }
+}
+
+// A set out of a unit.
+pub fn parse_aps(unit: &[u8], work: &mut [u8]) -> ApsReading
+    ensures answer { λ r. ⌜ outcomeAps r ≡ parseAps (now (unit .entry)) (length (now (work .entry))) ⌝ }
+    ensures set { λ r. ⌜ r .set ≡ setGiven (parseAps (now (unit .entry)) (length (now (work .entry)))) ⌝ }
+    ensures work { λ _. ⌜ now (work .exit) ≡ workAfter (now (unit .entry)) (now (work .entry)) ⌝ }
+{
+    match judge(unit, work.len()) {
+        UnitJudged::Aps => parse_judged(unit, work),
+        UnitJudged::Refused(why) => refuse(why),
     }
 }

@@ -4,6 +4,11 @@ use bitstream::Refusal;
 ghost use mathlib.Core.Path.{_≡_};
 ghost use Rattle.aps.specs.Unit.{outcomeH, parseNalHeader};
 
+// nal_unit_type of a set before its pictures, and of one after them.
+pub const NAL_TYPE_PREFIX_APS: u8 = 17;
+
+pub const NAL_TYPE_SUFFIX_APS: u8 = 18;
+
 pub struct VvcNalHeader {
     pub forbidden_zero_bit: u8,
     pub nuh_reserved_zero_bit: u8,

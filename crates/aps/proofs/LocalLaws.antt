@@ -1,0 +1,81 @@
+-- What is read depends only on the bits before the end that is reported.
+use mathlib.Core.Path.{_≡_, refl, sym, ap, _∙_}
+use mathlib.Core.Bool.{Bool, true, false}
+use mathlib.Core.List.{List, _++_}
+use Prim.Native.Nat.{ℕ, _+_, _-_, _*_, _/_, _%_, _^_, _≤_, _<_}
+use native.Mathlib.Nat.{zero-add, zero-div}
+use native.Mathlib.Omega.{arith}
+use lib.ListN.{length, getD}
+use Rattle.bitstream.specs.Outcome.{value}
+use Rattle.bitstream.specs.Bits.{bitAt, Holds}
+use Rattle.bitstream.specs.Fields.{trailingBits}
+use Rattle.bitstream.proofs.FieldLaws.{bit-inside}
+use Rattle.bitstream.proofs.WriteLaws.{length-trailing}
+use Rattle.bitstream.proofs.HoldLaws.{Same, holds-first, holds-same}
+use Rattle.bitstream.proofs.RoundTrip.{trailing-exact}
+use Rattle.bitstream.proofs.LocalLaws.{same-append}
+use Rattle.aps.specs.Codec.{Codec}
+use Rattle.aps.specs.Rbsp.{readRbsp}
+use Rattle.aps.specs.declared.aps.VvcAps.{VvcAps}
+use Rattle.aps.proofs.Lawful.{Lawful}
+use Rattle.aps.proofs.ExtensionLaws.{aps-whole, aps-last}
+use Rattle.aps.proofs.RbspLaws.{rbsp-extended, rbsp-plain, rbsp-sound, rbsp-end, setBits, read-stands, stands-read}
+
+-- what a lawful codec reads before the end of s is read in t too, where the bits up to its end are the same
+pub law-local : {A : Type 0} {c : Codec A} {m : ℕ} → Lawful c m → (s t : List ℕ) (p : ℕ) (a : A) (q : ℕ) → c .read s p ≡ value a q → q < length s * 8
+    → q ≤ length t * 8 → Same s t p q → c .read t p ≡ value a q
+law-local {c = c} C s t p a q e l l′ h =
+    let (k, n) = C .exact s p a q e l in
+    C .back t p a (C .sound s p a q e .1) (holds-same s t p (c .emit a) (omega arith) (rw n at h) k) ∙ ap (value a) (sym n)
+
+-- bytes that are the same have the same bits
+pub same-bytes : (s t : List ℕ) (q : ℕ) → ((i : ℕ) → i * 8 < q → getD t i 0 ≡ getD s i 0) → Same s t 0 q
+unfolding bitAt
+same-bytes s t q h i l m = rw (h (i / 8) (omega arith))
+
+module _ (s : List ℕ) (a : VvcAps) (q : ℕ) (e : readRbsp s ≡ value a q) where
+  -- its last byte has a 1 bit: the extension flag or the stop bit
+  pub read-one : (i : ℕ) × (bitAt s i ≡ 1) × (i < q) × (q ≤ i + (8 - i % 8))
+  unfolding trailingBits
+  read-one = go (a .«aps_extension_flag») refl
+    where
+      go : (b : Bool) → a .«aps_extension_flag» ≡ b → (i : ℕ) × (bitAt s i ≡ 1) × (i < q) × (q ≤ i + (8 - i % 8))
+      go true x =
+          let (k, n) = aps-whole s 0 a x q (rbsp-extended s a q e x) in
+          let (m, l, o) = aps-last s 0 a x k in
+          (0 + m, o, omega arith, omega arith)
+      go false x =
+          let (r, ea, et) = rbsp-plain s a q e x in
+          let (h, n) = trailing-exact s r (sym et) in
+          (r, holds-first s r 1 _ h .1, omega (arith, length-trailing r), omega (arith, length-trailing r))
+
+  -- zero bytes are read as no set
+  pub zeros-none : ((i : ℕ) → getD s i 0 ≡ 0) → ⊥
+  unfolding bitAt
+  zeros-none h =
+      let (i, o, l, m) = read-one in
+      let b : 0 / 2 ^ (7 - i % 8) % 2 ≡ 1 = rw (h (i / 8)) at o in
+      omega (arith, zero-div (2 ^ (7 - i % 8)))
+
+  -- that bit is in t too, so the set ends inside t
+  ends-inside : (t : List ℕ) → Same s t 0 q → q ≤ length t * 8
+  ends-inside t h =
+      let (i, o, l, m) = read-one in
+      omega (arith, bit-inside t i (h i (omega arith) l ∙ o))
+
+  -- a set that was read is read wherever its bits stand, with the same end
+  pub rbsp-local : (t : List ℕ) → Same s t 0 q → readRbsp t ≡ value a q
+  rbsp-local t h =
+      let (k, n) = read-stands s a q e in
+      let (o, f) = rbsp-sound s a q e in
+      let z : 0 + length (setBits a) ≡ q = zero-add _ ∙ sym n in
+      let k′ : Holds t 0 (setBits a) = holds-same s t 0 (setBits a) (omega (arith, ends-inside t h)) (rw z h) k in
+      stands-read t a o k′ ∙ rw (f, ← n)
+
+  -- whatever bytes follow
+  pub rbsp-append : (t : List ℕ) → readRbsp (s ++ t) ≡ value a q
+  rbsp-append t = rbsp-local (s ++ t) (same-append s t 0 q (rbsp-end s a q e))
+
+  -- from a copy of the bytes up to its end
+  pub rbsp-copy : (t : List ℕ) → ((i : ℕ) → i * 8 < q → getD t i 0 ≡ getD s i 0) → readRbsp t ≡ value a q
+  rbsp-copy t h = rbsp-local t (same-bytes s t q h)

@@ -1,0 +1,82 @@
+-- `alf_set`: the payload, the id, then how the set ends.
+use borrow.Author.Needs.{needs}
+use Prim.Native.Nat.{_≤_}
+use mathlib.Core.Path.{_≡_}
+use denote.Ref.{now}
+use native.Mathlib.Omega.{arith}
+use Rattle.bitstream.specs.Outcome.{value}
+use Rattle.aps.specs.AlfSyntax.{alf}
+use Rattle.aps.specs.Reading.{EndsBy, outcomeStop}
+use Rattle.aps.proofs.Answers.{answered, refused-answer, same-answer}
+use Rattle.aps.proofs.RbspSteps.{alf-refused, alf-id, alf-set}
+use Rattle.aps.proofs.aps.alf_set.Statement.{statement}
+use Rattle.aps.proofs.aps.alf_set.Tie as tie
+
+-- what the payload gave, and how far it reached
+taken : (c : tie.After-known-told)
+    → ((alf (c .before .before .before .before .before .before .args .chroma)) .read (now (c .before .before .before .before .before .before .args .bytes)) 9 ≡ value (c .before .before .before .before .read-alf .result .alf) (c .before .stop .given .0 .0)) × (c .before .stop .given .0 .0 ≤ 30009)
+taken c =
+    let k = c .before .before .before .before .read-alf in (
+      answered (λ st. outcomeStop st (k .result .alf)) (c .before .stop .given .1) (k .ensures .0),
+      rw (c .before .stop .given .1) at (k .ensures .1),
+    )
+
+read-alf-requires : tie.Need-read-alf-requires
+read-alf-requires c κs = search needs
+
+enum-known-stop : tie.Need-enum-known-stop
+enum-known-stop c = search needs
+
+refuse-requires : tie.Need-refuse-requires
+refuse-requires c κs = search needs
+
+returns : tie.Need-returns
+returns c =
+    let b = c .before .before .before .before .before .before .before .before in
+    let t = taken (c .before .before) in
+    refused-answer (c .refuse .result) _ (c .refuse .ensures) (alf-id (now (b .args .bytes)) (b .args .id) (b .args .chroma) (b .pre .1) _ _ (t .0) (c .before .if1 .taken))
+
+zero-lmcs-requires : tie.Need-zero-lmcs-requires
+zero-lmcs-requires c κs = search needs
+
+zero-scaling-requires : tie.Need-zero-scaling-requires
+zero-scaling-requires c κs = search needs
+
+ending-requires : tie.Need-ending-requires
+ending-requires c κs = (c .before .before .before .before .before .before .before .before .before .pre .0, omega (arith, taken (c .before .before .before) .1))
+
+enum-known-stop-2 : tie.Need-enum-known-stop-2
+enum-known-stop-2 c = search needs
+
+refuse-requires-2 : tie.Need-refuse-requires-2
+refuse-requires-2 c κs = search needs
+
+returns-2 : tie.Need-returns-2
+returns-2 c =
+    let b = c .before .before .before .before .before .before .before .before .before .before in
+    let t = taken (c .before .before .before .before) in
+    same-answer (c .ending .result) (c .ending .ensures)
+    (rw (c .before .before .zero-lmcs .ensures, c .before .zero-scaling .ensures) (alf-set (now (b .args .bytes)) (b .args .id) (b .args .chroma) (b .pre .1) _ _ (t .0) (c .before .before .before .if1 .left)))
+
+returns-3 : tie.Need-returns-3
+returns-3 c =
+    let b = c .before .before .before .before .before .before .before in
+    let k = c .before .before .before .before .before .read-alf in
+    let e = answered (λ st. outcomeStop st (k .result .alf)) (c .before .before .stop2 .given .1) (k .ensures .0) in
+    refused-answer (c .refuse2 .result) _ (c .refuse2 .ensures) (alf-refused (now (b .args .bytes)) (b .args .id) (b .args .chroma) (b .pre .1) _ e)
+
+pub alf-set-spec : {M : Type 1} → statement M
+alf-set-spec =
+    tie.close
+    (tie.spec
+    read-alf-requires
+    enum-known-stop
+    refuse-requires
+    returns
+    zero-lmcs-requires
+    zero-scaling-requires
+    ending-requires
+    enum-known-stop-2
+    refuse-requires-2
+    returns-2
+    returns-3)
