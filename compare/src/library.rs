@@ -1,4 +1,6 @@
-//! The proved library's calls, by target/staticlib/libbitstream_c.a.
+//! The proved libraries' calls, by the archives of target/staticlib.
+
+pub mod sets;
 
 pub mod raw {
     #[link(name = "bitstream_c", kind = "static")]

@@ -1,7 +1,7 @@
-//! Compares the proved library with the Rust that it follows, and measures both.
+//! Compares the proved libraries with the Rust that they follow, and measures both.
 #![allow(dead_code)] // parts of the Rust that are not compared
 
-// The Rust: bit_reader, bit_writer, nal and BitstreamError.
+// The Rust: bit_reader, bit_writer, nal, h266::aps, the header of h266, and BitstreamError.
 include!(env!("COMPARE_RUST"));
 
 mod boundaries;
@@ -10,7 +10,9 @@ mod expected;
 mod fields;
 mod library;
 mod random;
+mod replay;
 mod rust_calls;
+mod sets;
 mod speed;
 mod tally;
 
@@ -18,12 +20,14 @@ use std::process::ExitCode;
 
 fn main() -> ExitCode {
     let mut parts: Vec<String> = std::env::args().skip(1).collect();
-    if parts == ["boundaries"] {
-        boundaries::print();
-        return ExitCode::SUCCESS;
+    match parts.iter().map(String::as_str).collect::<Vec<_>>()[..] {
+        ["boundaries"] => return printed(boundaries::print),
+        ["sample"] => return printed(replay::print_sample),
+        ["replay"] => return printed(replay::print_answers),
+        _ => (),
     }
     if parts.is_empty() {
-        parts = ["fields", "escapes", "speed"].map(String::from).to_vec();
+        parts = ["fields", "escapes", "sets", "speed"].map(String::from).to_vec();
     }
     let mut rows = Vec::new();
     let mut times = Vec::new();
@@ -31,9 +35,10 @@ fn main() -> ExitCode {
         match part.as_str() {
             "fields" => rows.extend(fields::compare()),
             "escapes" => rows.extend(escapes::compare()),
+            "sets" => rows.extend(sets::compare()),
             "speed" => times = speed::measure(),
             _ => {
-                eprintln!("no part {part}: fields, escapes, speed or boundaries");
+                eprintln!("no part {part}: fields, escapes, sets, speed, boundaries, sample or replay");
                 return ExitCode::from(2);
             }
         }
@@ -43,5 +48,10 @@ fn main() -> ExitCode {
     if rows.iter().any(|row| row.differences > 0) {
         return ExitCode::FAILURE;
     }
+    ExitCode::SUCCESS
+}
+
+fn printed(lines: fn()) -> ExitCode {
+    lines();
     ExitCode::SUCCESS
 }

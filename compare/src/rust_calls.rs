@@ -2,6 +2,8 @@
 
 use crate::bit_reader::BitReader;
 use crate::bit_writer::BitWriter;
+use crate::expected;
+use crate::h266::aps;
 use crate::nal;
 
 fn reader<'a>(bytes: *const u8, len: usize, at: usize) -> BitReader<'a> {
@@ -64,5 +66,21 @@ pub extern "C" fn ebsp_to_rbsp(src: *const u8, len: usize, out: &mut Vec<u8>) ->
 #[inline(never)]
 pub extern "C" fn rbsp_to_ebsp(src: *const u8, len: usize, out: &mut Vec<u8>) -> u32 {
     *out = nal::rbsp_to_ebsp(unsafe { std::slice::from_raw_parts(src, len) });
+    0
+}
+
+#[inline(never)]
+pub extern "C" fn rbsp_end(bytes: *const u8, len: usize) -> u32 {
+    let read = aps::parse_aps_rbsp(unsafe { std::slice::from_raw_parts(bytes, len) });
+    std::hint::black_box(read).is_err().into()
+}
+
+#[inline(never)]
+pub extern "C" fn parse_rbsp(bytes: *const u8, len: usize, set: *mut i64) -> u32 {
+    let Ok(read) = aps::parse_aps_rbsp(unsafe { std::slice::from_raw_parts(bytes, len) }) else {
+        return 2;
+    };
+    let numbers = expected::sets::numbers(&read);
+    unsafe { std::ptr::copy_nonoverlapping(numbers.as_ptr(), set, numbers.len()) };
     0
 }

@@ -2,15 +2,19 @@
 use crate::numbers::put_set;
 use aps::aps::ApsOutcome;
 use aps::aps::ApsReading;
+use aps::aps::parse_aps;
+use aps::aps::parse_aps_rbsp;
 use aps::nal_header::HeaderRead;
 use aps::nal_header::VvcNalHeader;
 use aps::nal_header::parse_nal_header;
 use bitstream::Refusal;
 ghost use mathlib.Core.Path.{_≡_};
+ghost use lib.ListN.{length};
 ghost use lib.Seq.{sets};
 ghost use Rattle.bitstream.specs.Outcome.{number as numberOf};
 ghost use Rattle.aps.specs.Reading.{outcomeAps};
-ghost use Rattle.aps.specs.Unit.{outcomeH, parseNalHeader};
+ghost use Rattle.aps.specs.Rbsp.{parseApsRbsp};
+ghost use Rattle.aps.specs.Unit.{outcomeH, parseNalHeader, parseAps, workAfter};
 ghost use Rattle.aps_c.specs.Codes.{code, given, placed, headed};
 ghost use Rattle.aps_c.specs.Numbers.{headerNumbers};
 
@@ -68,4 +72,28 @@ pub extern "C" fn aps_parse_nal_header(unit: &[u8], header: &mut [u8; 5]) -> u32
         }
         HeaderRead::Refused(e) => number(e),
     }
+}
+
+#[no_mangle]
+pub extern "C" fn aps_parse_rbsp(bytes: &[u8], set: &mut [i64; 3122], end: &mut [u64; 1]) -> u32
+    ensures code { λ r. ⌜ r ≡ code (parseApsRbsp (now (bytes .entry))) ⌝ }
+    ensures set { λ _. ⌜ now (set .exit) ≡ given (parseApsRbsp (now (bytes .entry))) (now (set .entry)) ⌝ }
+    ensures end { λ _. ⌜ now (end .exit) ≡ placed (parseApsRbsp (now (bytes .entry))) (now (end .entry)) ⌝ }
+{
+    answered(parse_aps_rbsp(bytes), set, end)
+}
+
+#[no_mangle]
+pub extern "C" fn aps_parse(
+    unit: &[u8],
+    work: &mut [u8],
+    set: &mut [i64; 3122],
+    end: &mut [u64; 1],
+) -> u32
+    ensures code { λ r. ⌜ r ≡ code (parseAps (now (unit .entry)) (length (now (work .entry)))) ⌝ }
+    ensures set { λ _. ⌜ now (set .exit) ≡ given (parseAps (now (unit .entry)) (length (now (work .entry)))) (now (set .entry)) ⌝ }
+    ensures end { λ _. ⌜ now (end .exit) ≡ placed (parseAps (now (unit .entry)) (length (now (work .entry)))) (now (end .entry)) ⌝ }
+    ensures work { λ _. ⌜ now (work .exit) ≡ workAfter (now (unit .entry)) (now (work .entry)) ⌝ }
+{
+    answered(parse_aps(unit, work), set, end)
 }

@@ -1,0 +1,143 @@
+//! Sets: what the Rust reads, as the numbers that cross the library's call boundary.
+
+use super::{document, number};
+use crate::h266::aps::{self, VvcAlfCcFilters, VvcAlfData, VvcAps, VvcApsPayload, VvcLmcsData, VvcScalingListData};
+use crate::h266::{self, NAL_TYPE_PREFIX_APS, NAL_TYPE_SUFFIX_APS};
+use crate::library::sets::Answer;
+use crate::nal;
+
+/// Rows one after another, filled up with zeros to `len` numbers.
+fn rows<const W: usize, T: Copy>(rows: &[[T; W]], len: usize, number: impl Fn(T) -> i64) -> Vec<i64> {
+    let mut out: Vec<i64> = rows.iter().flatten().map(|&x| number(x)).collect();
+    out.resize(len, 0);
+    out
+}
+
+fn filters(d: &Option<VvcAlfCcFilters>) -> Vec<i64> {
+    let d = d.clone().unwrap_or_default();
+    let mut out = vec![d.filters_signalled_minus1.into()];
+    out.extend(rows(&d.mapped_coeff_abs, 28, i64::from));
+    out.extend(rows(&d.coeff_sign, 28, i64::from));
+    out
+}
+
+fn alf(d: &VvcAlfData) -> Vec<i64> {
+    let mut out = vec![
+        d.alf_luma_filter_signal_flag.into(),
+        d.alf_chroma_filter_signal_flag.into(),
+        d.alf_cc_cb_filter_signal_flag.into(),
+        d.alf_cc_cr_filter_signal_flag.into(),
+    ];
+    let luma = d.luma.clone().unwrap_or_default();
+    out.push(luma.alf_luma_clip_flag.into());
+    out.push(luma.alf_luma_num_filters_signalled_minus1.into());
+    out.extend(luma.alf_luma_coeff_delta_idx.map(i64::from));
+    out.extend(rows(&luma.coeff_abs, 300, i64::from));
+    out.extend(rows(&luma.coeff_sign, 300, i64::from));
+    out.extend(rows(&luma.clip_idx, 300, i64::from));
+    let chroma = d.chroma.clone().unwrap_or_default();
+    out.push(chroma.alf_chroma_clip_flag.into());
+    out.push(chroma.alf_chroma_num_alt_filters_minus1.into());
+    out.extend(rows(&chroma.coeff_abs, 48, i64::from));
+    out.extend(rows(&chroma.coeff_sign, 48, i64::from));
+    out.extend(rows(&chroma.clip_idx, 48, i64::from));
+    out.extend(filters(&d.cc_cb));
+    out.extend(filters(&d.cc_cr));
+    out
+}
+
+fn lmcs(d: &VvcLmcsData) -> Vec<i64> {
+    let mut out = vec![
+        d.lmcs_min_bin_idx.into(),
+        d.lmcs_delta_max_bin_idx.into(),
+        d.lmcs_delta_cw_prec_minus1.into(),
+    ];
+    out.extend(d.lmcs_delta_abs_cw.map(i64::from));
+    out.extend(d.lmcs_delta_sign_cw_flag.map(i64::from));
+    out.push(d.lmcs_delta_abs_crs.into());
+    out.push(d.lmcs_delta_sign_crs_flag.into());
+    out
+}
+
+fn scaling(d: &VvcScalingListData) -> Vec<i64> {
+    let mut out = Vec::new();
+    out.extend(d.copy_mode_flag.map(i64::from));
+    out.extend(d.pred_mode_flag.map(i64::from));
+    out.extend(d.pred_id_delta.map(i64::from));
+    out.extend(d.dc_coef.map(i64::from));
+    out.extend(d.scaling_list.as_flattened().iter().map(|&x| i64::from(x)));
+    out
+}
+
+/// Kind, id, the two flags, then the three records, of which the other two are 0: `numbers` of crates/aps_c/specs/Numbers.antt.
+pub fn numbers(set: &VvcAps) -> Vec<i64> {
+    let mut out = vec![
+        set.aps_params_type.into(),
+        set.aps_adaptation_parameter_set_id.into(),
+        set.aps_chroma_present_flag.into(),
+        set.aps_extension_flag.into(),
+    ];
+    let payload = match &set.payload {
+        VvcApsPayload::Alf(d) => [alf(d), vec![0; 37 + 1890]].concat(),
+        VvcApsPayload::Lmcs(d) => [vec![0; 1191], lmcs(d), vec![0; 1890]].concat(),
+        VvcApsPayload::ScalingList(d) => [vec![0; 1191 + 37], scaling(d)].concat(),
+    };
+    out.extend(payload);
+    out
+}
+
+/// The bit where reading ended, which the Rust keeps to itself. Each field has one code, so the set written again takes the bits that were
+/// read: with extension flag 0 whole bytes, and with flag 1 all before the stop bit, the last 1 of the set written with the flag cleared.
+pub fn end(set: &VvcAps) -> usize {
+    let mut plain = set.clone();
+    plain.aps_extension_flag = false;
+    let bytes = aps::write_aps(&plain).expect("a set that was read is written");
+    let bits = bytes.len() * 8;
+    if set.aps_extension_flag {
+        bits - 1 - bytes.last().map_or(0, |b| b.trailing_zeros() as usize)
+    } else {
+        bits
+    }
+}
+
+fn answer(read: Result<VvcAps, crate::BitstreamError>) -> Answer {
+    let set = read.map_err(number)?;
+    Ok((numbers(&set), end(&set)))
+}
+
+pub fn parse_rbsp(bytes: &[u8]) -> Answer {
+    document::escape(bytes.len())?;
+    answer(aps::parse_aps_rbsp(bytes))
+}
+
+/// The answer, and the work buffer after it: from refusal 5 on it is the document's, since the Rust makes its own.
+pub fn parse(unit: &[u8], work: &[u8]) -> (Answer, Vec<u8>) {
+    let untouched = |e| (Err(e), work.to_vec());
+    if let Err(e) = document::escape(unit.len()) {
+        return untouched(e);
+    }
+    let is_aps = |t| t == NAL_TYPE_PREFIX_APS || t == NAL_TYPE_SUFFIX_APS;
+    match h266::parse_nal_header(unit) {
+        Err(e) => return untouched(number(e)),
+        Ok(header) if is_aps(header.nal_unit_type) => (),
+        Ok(_) => return (answer(aps::parse_aps(unit)), work.to_vec()),
+    }
+    if let Err(e) = document::room(unit.len() - 2, work.len()) {
+        return untouched(e);
+    }
+    let rbsp = nal::ebsp_to_rbsp(&unit[2..]);
+    let after = [&rbsp, &work[rbsp.len()..]].concat();
+    (answer(aps::parse_aps(unit)), after)
+}
+
+pub fn nal_header(unit: &[u8]) -> Result<[u8; 5], u32> {
+    document::escape(unit.len())?;
+    let h = h266::parse_nal_header(unit).map_err(number)?;
+    Ok([
+        h.forbidden_zero_bit,
+        h.nuh_reserved_zero_bit,
+        h.nuh_layer_id,
+        h.nal_unit_type,
+        h.nuh_temporal_id_plus1,
+    ])
+}

@@ -1,0 +1,83 @@
+//! The calls of the sets library, by target/staticlib/libaps_c.a.
+
+use super::{ARRAY_CHANGED, MARK};
+
+/// Numbers that a set is handed over as.
+pub const NUMBERS: usize = 3122;
+
+pub mod raw {
+    #[link(name = "aps_c", kind = "static")]
+    extern "C" {
+        pub fn aps_parse_rbsp(bytes: *const u8, len: usize, set: *mut i64, end: *mut u64) -> u32;
+        pub fn aps_rbsp_end(bytes: *const u8, len: usize, end: *mut u64) -> u32;
+        pub fn aps_parse(unit: *const u8, len: usize, work: *mut u8, room: usize, set: *mut i64, end: *mut u64) -> u32;
+        pub fn aps_parse_nal_header(unit: *const u8, len: usize, header: *mut u8) -> u32;
+    }
+}
+
+/// The numbers of a set and the bit where reading ended, or the refusal's number.
+pub type Answer = Result<(Vec<i64>, usize), u32>;
+
+/// The arrays that are lent, marked before each call; the last number stands past the array's end.
+pub struct Lent {
+    set: Vec<i64>,
+    end: u64,
+}
+
+impl Lent {
+    pub fn new() -> Self {
+        Lent {
+            set: vec![MARK as i64; NUMBERS + 1],
+            end: MARK,
+        }
+    }
+
+    fn answer(&mut self, code: u32) -> Answer {
+        if code != 0 && self.end == MARK && self.set.iter().all(|&x| x == MARK as i64) {
+            return Err(code);
+        }
+        let Lent { mut set, end } = std::mem::replace(self, Lent::new());
+        if code != 0 || set.pop() != Some(MARK as i64) {
+            return Err(ARRAY_CHANGED + code);
+        }
+        Ok((set, end as usize))
+    }
+
+    pub fn parse_rbsp(&mut self, bytes: &[u8]) -> Answer {
+        let code = unsafe { raw::aps_parse_rbsp(bytes.as_ptr(), bytes.len(), self.set.as_mut_ptr(), &mut self.end) };
+        self.answer(code)
+    }
+
+    pub fn rbsp_end(&mut self, bytes: &[u8]) -> Result<usize, u32> {
+        let code = unsafe { raw::aps_rbsp_end(bytes.as_ptr(), bytes.len(), &mut self.end) };
+        let end = std::mem::replace(&mut self.end, MARK);
+        match code {
+            0 => Ok(end as usize),
+            _ if end == MARK => Err(code),
+            _ => Err(ARRAY_CHANGED + code),
+        }
+    }
+
+    pub fn parse(&mut self, unit: &[u8], work: &mut [u8]) -> Answer {
+        let code = unsafe {
+            raw::aps_parse(
+                unit.as_ptr(),
+                unit.len(),
+                work.as_mut_ptr(),
+                work.len(),
+                self.set.as_mut_ptr(),
+                &mut self.end,
+            )
+        };
+        self.answer(code)
+    }
+}
+
+pub fn nal_header(unit: &[u8]) -> Result<[u8; 5], u32> {
+    let mut header = [MARK as u8; 6];
+    match unsafe { raw::aps_parse_nal_header(unit.as_ptr(), unit.len(), header.as_mut_ptr()) } {
+        0 if header[5] == MARK as u8 => Ok([header[0], header[1], header[2], header[3], header[4]]),
+        code if header == [MARK as u8; 6] => Err(code),
+        code => Err(ARRAY_CHANGED + code),
+    }
+}

@@ -1,0 +1,91 @@
+//! Sets read from RBSPs: the Rust makes its records, the library its own; and both hand the set over as numbers.
+
+use std::hint::black_box;
+use std::time::Instant;
+
+use super::{time, Run, Time};
+use crate::expected;
+use crate::h266::aps::{self, parse_aps_rbsp};
+use crate::library::sets::{raw, NUMBERS};
+use crate::random::Random;
+use crate::rust_calls;
+use crate::sets::make::{Maker, Style};
+
+/// Small, typical and full sets of the three kinds.
+pub fn inputs() -> Vec<(String, Vec<u8>)> {
+    let mut random = Random::new(17);
+    let mut out = Vec::new();
+    for (kind, name, small) in [
+        (0, "ALF", &[0x00, 0x10][..]),
+        (1, "LMCS", &[0x20, 0x42, 0x12]),
+        (2, "scaling", &[0x40, 0x7F, 0xFF, 0xE8]),
+    ] {
+        out.push((format!("small {name} set"), small.to_vec()));
+        for (size, style) in [("typical", Style::Typical), ("full", Style::Full)] {
+            let mut maker = Maker {
+                random: &mut random,
+                style,
+            };
+            let sets: Vec<Vec<u8>> = (0..15)
+                .map(|_| aps::write_aps(&maker.set(kind)).unwrap_or_default())
+                .collect();
+            out.push((format!("{size} {name} set"), middle(sets)));
+        }
+    }
+    out
+}
+
+/// The one of middle length.
+fn middle(mut sets: Vec<Vec<u8>>) -> Vec<u8> {
+    sets.sort_by_key(Vec::len);
+    sets.swap_remove(sets.len() / 2)
+}
+
+fn calls(bytes: &[u8], call: impl Fn(&[u8]) -> u64) -> Run {
+    let count = (40_000 / (bytes.len() + 10)) as u64;
+    let began = Instant::now();
+    let sum = (0..count).map(|_| call(black_box(bytes))).sum();
+    (count, began.elapsed(), sum)
+}
+
+/// The set read, and nothing handed over but whether there is one.
+pub fn read(name: &str, bytes: &[u8]) -> Time {
+    let rust = black_box(rust_calls::rbsp_end as extern "C" fn(*const u8, usize) -> u32);
+    time(
+        format!("{name}, {} bytes", bytes.len()),
+        [
+            &mut || calls(bytes, |b| black_box(parse_aps_rbsp(b)).is_err().into()),
+            &mut || calls(bytes, |b| rust(b.as_ptr(), b.len()).into()),
+            &mut || {
+                let mut end = 0;
+                let end: *mut u64 = &mut end;
+                calls(bytes, |b| unsafe { raw::aps_rbsp_end(b.as_ptr(), b.len(), end).into() })
+            },
+        ],
+    )
+}
+
+/// The set read and handed over as numbers.
+pub fn numbers(name: &str, bytes: &[u8]) -> Time {
+    let mut set = vec![0; NUMBERS];
+    let mut end = 0;
+    let (set, end): (*mut i64, *mut u64) = (set.as_mut_ptr(), &mut end);
+    let rust = black_box(rust_calls::parse_rbsp as extern "C" fn(*const u8, usize, *mut i64) -> u32);
+    time(
+        format!("{name}, as numbers"),
+        [
+            &mut || {
+                calls(bytes, |b| {
+                    let numbers = parse_aps_rbsp(b).map(|set| expected::sets::numbers(&set));
+                    black_box(numbers).is_err().into()
+                })
+            },
+            &mut || calls(bytes, |b| rust(b.as_ptr(), b.len(), set).into()),
+            &mut || {
+                calls(bytes, |b| unsafe {
+                    raw::aps_parse_rbsp(b.as_ptr(), b.len(), set, end).into()
+                })
+            },
+        ],
+    )
+}
