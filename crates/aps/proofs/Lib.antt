@@ -1,3 +1,6 @@
 pub mod Bounds
 pub mod PairLaws
+pub mod ScalingSteps
+pub mod SignedLaws
 pub mod Steps
+pub mod Table

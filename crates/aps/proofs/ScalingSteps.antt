@@ -1,0 +1,142 @@
+-- The steps of scaling_list_data(), as its readers take them.
+use mathlib.Core.Path.{_≡_, refl, sym, ap, _∙_}
+use mathlib.Core.Bool.{Bool, true, false, cond, not, _&&_, _||_}
+use mathlib.Core.List.{List, [], _∷_, _++_, map}
+use Prim.Native.Nat.{ℕ, zero, suc, _+_, _-_, _*_, _≤_, _<_}
+use native.Mathlib.Omega.{arith}
+use borrow.Author.Tests.{leb-true}
+use lib.Dec.{leb, ltb, eqb}
+use lib.IntN.{ℤ, pos, negsuc, natAbs, _+ℤ_}
+use lib.Signed.{leZ, ltZ}
+use lib.ListN.{length, set}
+use lib.Seq.{sets}
+use Rattle.bitstream.specs.Outcome.{Outcome, value, refused, mapOutcome, _then_}
+use Rattle.bitstream.specs.Fields.{readUe, readSe, seValue}
+use Rattle.aps.specs.Codec.{Codec, ue, _▷_, via, judged, Inferred, when, eachFrom}
+use Rattle.aps.specs.Elements.{se, seIn}
+use Rattle.aps.specs.ScalingSyntax.{skipped, entries, just, step, stepAt, sums, cons, dcAt, coefficients, entrySyntax, idAt}
+use Rattle.aps.proofs.SignedLaws.{add-abs, not-ltZ}
+
+-- the values that a reading can give
+module _ {A : Type 0} where
+  abbrev pub Gives : (A → Type 0) → Outcome A → Type 0
+  Gives P (value a q) = P a
+  Gives P (refused e) = Unit {0}
+
+  pub given : (P : A → Type 0) {o : Outcome A} {a : A} {q : ℕ} → o ≡ value a q → Gives P o → P a
+  given P e g = rw e at g
+
+module _ {A B : Type 0} where
+  gives-then : (P : A → Type 0) (Q : B → Type 0) (o : Outcome A) (f : A → ℕ → Outcome B) → Gives P o → ((a : A) (q : ℕ) → P a → Gives Q (f a q)) → Gives Q (_then_ o f)
+  gives-then P Q (value a q) f g h = h a q g
+  gives-then P Q (refused e) f g h = tt
+
+-- ---- se(v) in a range
+
+se-read : (s : List ℕ) (p : ℕ) → se .read s p ≡ readSe s p
+unfolding se via ue readSe
+se-read s p = go (readUe s p)
+  where
+    go : (o : Outcome ℕ) → _then_ o (λ a q. value (seValue a) q) ≡ mapOutcome seValue o
+    go (value a q) = refl
+    go (refused e) = refl
+
+pub seIn-read : (low high : ℤ) (s : List ℕ) (p : ℕ) → (seIn low high) .read s p ≡ _then_ (readSe s p) (λ z q. cond (leZ low z && leZ z high) (value z q) (refused 2))
+unfolding seIn judged
+seIn-read low high s p = rw (se-read s p)
+
+abbrev pub se8 : Codec ℤ
+se8 = seIn (negsuc 127) (pos 127)
+
+module _ (s : List ℕ) (p : ℕ) where
+  pub se8-refused : {n : ℕ} → readSe s p ≡ refused n → se8 .read s p ≡ refused n
+  se8-refused e = rw (seIn-read (negsuc 127) (pos 127) s p, e)
+
+  module _ {z : ℤ} {q : ℕ} (e : readSe s p ≡ value z q) where
+    pub se8-low : ltZ z (negsuc 127) ≡ true → se8 .read s p ≡ refused 2
+    se8-low a = rw (seIn-read (negsuc 127) (pos 127) s p, e, not-ltZ (negsuc 127) z, a)
+
+    module _ (a : ltZ z (negsuc 127) ≡ false) where
+      pub se8-high : ltZ (pos 127) z ≡ true → se8 .read s p ≡ refused 2
+      se8-high b = rw (seIn-read (negsuc 127) (pos 127) s p, e, not-ltZ (negsuc 127) z, a, not-ltZ z (pos 127), b)
+
+      pub se8-in : ltZ (pos 127) z ≡ false → se8 .read s p ≡ value z q
+      se8-in b = rw (seIn-read (negsuc 127) (pos 127) s p, e, not-ltZ (negsuc 127) z, a, not-ltZ z (pos 127), b)
+
+-- a number in -128..127
+abbrev pub Small : ℤ → Type 0
+Small z = natAbs z ≤ 128
+
+small : (z : ℤ) → leZ (negsuc 127) z ≡ true → leZ z (pos 127) ≡ true → Small z
+small (pos n) a b = omega (arith, leb-true n 127 b)
+small (negsuc n) a b = omega (arith, leb-true n 127 a)
+
+pub se8-small : (s : List ℕ) (p : ℕ) → Gives Small (se8 .read s p)
+se8-small s p = rw (seIn-read (negsuc 127) (pos 127) s p) (first (readSe s p))
+  where
+    judge : (z : ℤ) (q : ℕ) (a b : Bool) → leZ (negsuc 127) z ≡ a → leZ z (pos 127) ≡ b → Gives Small (cond (a && b) (value z q) (refused 2))
+    judge z q true true e f = small z e f
+    judge z q true false e f = tt
+    judge z q false b e f = tt
+
+    first : (o : Outcome ℤ) → Gives Small (_then_ o (λ z q. cond (leZ (negsuc 127) z && leZ z (pos 127)) (value z q) (refused 2)))
+    first (value z q) = judge z q (leZ (negsuc 127) z) (leZ z (pos 127)) refl refl
+    first (refused e) = tt
+
+-- ---- one step
+
+module _ (id i : ℕ) (prev : ℤ) (s : List ℕ) (p : ℕ) where
+  pub step-skip : skipped id i ≡ true → (stepAt id i prev) .read s p ≡ value prev p
+  unfolding when
+  step-skip k = rw k
+
+  module _ (k : skipped id i ≡ false) where
+    pub step-refused : {n : ℕ} → se8 .read s p ≡ refused n → (stepAt id i prev) .read s p ≡ refused n
+    unfolding when step via
+    step-refused e = rw (k, e)
+
+    pub step-value : {z : ℤ} {q : ℕ} → se8 .read s p ≡ value z q → (stepAt id i prev) .read s p ≡ value (z +ℤ prev) q
+    unfolding when step via
+    step-value e = rw (k, e)
+
+  pub step-small : Gives (λ v. natAbs v ≤ natAbs prev + 128) ((stepAt id i prev) .read s p)
+  unfolding when step via
+  step-small = go (skipped id i)
+    where
+      go : (b : Bool) → Gives (λ v. natAbs v ≤ natAbs prev + 128) (cond (not b) (_then_ (se8 .read s p) (λ d q. value (d +ℤ prev) q)) (value prev p))
+      go true = omega arith
+      go false = gives-then Small (λ v. natAbs v ≤ natAbs prev + 128) (se8 .read s p) (λ d q. value (d +ℤ prev) q) (se8-small s p) (λ d q h. omega (arith, add-abs d prev))
+
+-- ---- the steps of a list
+
+module _ (id i : ℕ) (prev : ℤ) (s : List ℕ) (p : ℕ) where
+  pub sums-end : (sums id i 0 prev) .read s p ≡ value [] p
+  unfolding sums eachFrom
+  sums-end = refl
+
+  module _ (n : ℕ) where
+    pub sums-refused : {e : ℕ} → (stepAt id i prev) .read s p ≡ refused e → (sums id i (suc n) prev) .read s p ≡ refused e
+    unfolding sums via _▷_
+    sums-refused r = rw r
+
+    pub sums-more : {v : ℤ} {q : ℕ} → (stepAt id i prev) .read s p ≡ value v q
+        → (sums id i (suc n) prev) .read s p ≡ mapOutcome (λ l. v ∷ l) ((sums id (suc i) n v) .read s q)
+    unfolding sums via _▷_
+    sums-more {v = v} {q = q} r = rw r (go ((sums id (suc i) n v) .read s q))
+      where
+        go : (o : Outcome (List ℤ)) → _then_ (_then_ o (λ b t. value (v, b) t)) (λ x t. value (cons x) t) ≡ mapOutcome (λ l. v ∷ l) o
+        go (value l t) = refl
+        go (refused e) = refl
+
+pub sums-length : (id i n : ℕ) (prev : ℤ) (s : List ℕ) (p : ℕ) → Gives (λ l. length l ≡ n) ((sums id i n prev) .read s p)
+sums-length id i zero prev s p = rw (sums-end id i prev s p) refl
+sums-length id i (suc n) prev s p = first ((stepAt id i prev) .read s p) refl (λ v q. sums-length id (suc i) n v s q)
+  where
+    last : (v : ℤ) (o : Outcome (List ℤ)) → Gives (λ l. length l ≡ n) o → Gives (λ l. length l ≡ suc n) (mapOutcome (λ l. v ∷ l) o)
+    last v (value l q) h = ap suc h
+    last v (refused e) h = tt
+
+    first : (o : Outcome ℤ) → (stepAt id i prev) .read s p ≡ o → ((v : ℤ) (q : ℕ) → Gives (λ l. length l ≡ n) ((sums id (suc i) n v) .read s q))
+        → Gives (λ l. length l ≡ suc n) ((sums id i (suc n) prev) .read s p)
+    first (value v q) e h = rw (sums-more id i prev s p n e) (last v ((sums id (suc i) n v) .read s q) (h v q))
+    first (refused k) e h = rw (sums-refused id i prev s p n e) tt
