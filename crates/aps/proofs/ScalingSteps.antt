@@ -3,6 +3,8 @@ use mathlib.Core.Path.{_≡_, refl, sym, ap, _∙_}
 use mathlib.Core.Bool.{Bool, true, false, cond, not, _&&_, _||_}
 use mathlib.Core.List.{List, [], _∷_, _++_, map}
 use Prim.Native.Nat.{ℕ, zero, suc, _+_, _-_, _*_, _≤_, _<_}
+use native.Mathlib.Nat.{add-zero, add-suc, sub-zero}
+use native.Mathlib.Numerals.{add-one}
 use native.Mathlib.Omega.{arith}
 use borrow.Author.Tests.{leb-true}
 use lib.Dec.{leb, ltb, eqb}
@@ -13,7 +15,7 @@ use lib.Seq.{sets}
 use Rattle.bitstream.specs.Outcome.{Outcome, value, refused, mapOutcome, _then_}
 use Rattle.bitstream.specs.Fields.{readUe, readSe, seValue}
 use Rattle.aps.specs.Codec.{Codec, ue, _▷_, via, judged, Inferred, when, eachFrom}
-use Rattle.aps.specs.Elements.{se, seIn}
+use Rattle.aps.specs.Elements.{se, seIn, ueTo}
 use Rattle.aps.specs.ScalingSyntax.{skipped, entries, just, step, stepAt, sums, cons, dcAt, coefficients, entrySyntax, idAt}
 use Rattle.aps.proofs.SignedLaws.{add-abs, not-ltZ}
 
@@ -140,3 +142,57 @@ sums-length id i (suc n) prev s p = first ((stepAt id i prev) .read s p) refl (�
         → Gives (λ l. length l ≡ suc n) ((sums id i (suc n) prev) .read s p)
     first (value v q) e h = rw (sums-more id i prev s p n e) (last v ((sums id (suc i) n v) .read s q) (h v q))
     first (refused k) e h = rw (sums-refused id i prev s p n e) tt
+
+pub entries-le : (id : ℕ) → entries id ≤ 64
+unfolding entries
+entries-le id = go (ltb id 2) (ltb id 8)
+  where
+    go : (a b : Bool) → cond a 4 (cond b 16 64) ≤ 64
+    go true b = omega arith
+    go false true = omega arith
+    go false false = omega arith
+
+-- The loop over the steps: the sums before i are stored in the flat array a, and what is left to read is stored after them.
+pub record Stepping (id n : ℕ) (dc : ℤ) (s : List ℕ) (p : ℕ) (a₀ : List ℤ) (i : ℕ) (a : List ℤ) (sum : ℤ) (q : ℕ) : Type 0 where
+  pub left : mapOutcome (sets a (64 * id + i)) ((sums id i (n - i) sum) .read s q) ≡ mapOutcome (sets a₀ (64 * id)) ((sums id 0 n dc) .read s p)
+  pub near : q ≤ p + 63 * i
+  pub small : natAbs sum ≤ 128 * (i + 1)
+  pub count : i ≤ n
+
+module _ (id n : ℕ) (dc : ℤ) (s : List ℕ) (p : ℕ) (a₀ : List ℤ) where
+  pub stepping-start : natAbs dc ≤ 128 → Stepping id n dc s p a₀ 0 a₀ dc p
+  stepping-start h = record { left = rw (add-zero (64 * id), sub-zero n); near = omega arith; small = omega arith; count = omega arith }
+
+  module _ (i : ℕ) (a : List ℤ) (sum : ℤ) (q : ℕ) (R : Stepping id n dc s p a₀ i a sum q) where
+    pub stepping-more : (v : ℤ) (r : ℕ) → i < n → (stepAt id i sum) .read s q ≡ value v r → r ≤ q + 63 → Stepping id n dc s p a₀ (i + 1) (set a (64 * id + i) v) v r
+    stepping-more v r h e b =
+        let m : n - i ≡ suc (n - (i + 1)) = omega arith in
+        let f : mapOutcome (sets a (64 * id + i)) ((sums id i (n - i) sum) .read s q) ≡ mapOutcome (sets (set a (64 * id + i) v) (64 * id + (i + 1))) ((sums id (i + 1) (n - (i + 1)) v) .read s r)
+        = rw (m, sums-more id i sum s q (n - (i + 1)) e, add-one i, add-suc (64 * id) i) (go ((sums id (suc i) (n - suc i) v) .read s r)) in
+        record {
+          left = sym f ∙ R .left;
+          near = omega (arith, R .near);
+          small = omega (arith, R .small, given (λ (w : ℤ). natAbs w ≤ natAbs sum + 128) e (step-small id i sum s q));
+          count = omega arith;
+        }
+      where
+        go : (o : Outcome (List ℤ)) → mapOutcome (sets a (64 * id + i)) (mapOutcome (λ l. v ∷ l) o) ≡ mapOutcome (sets (set a (64 * id + i) v) (suc (64 * id + i))) o
+        go (value l t) = refl
+        go (refused k) = refl
+
+    pub stepping-refused : {e : ℕ} → i < n → (stepAt id i sum) .read s q ≡ refused e → refused e ≡ mapOutcome (sets a₀ (64 * id)) ((sums id 0 n dc) .read s p)
+    stepping-refused h r =
+        let m : n - i ≡ suc (n - (i + 1)) = omega arith in
+        sym (rw (m, sums-refused id i sum s q (n - (i + 1)) r)) ∙ R .left
+
+    pub stepping-done : n ≤ i → value a q ≡ mapOutcome (sets a₀ (64 * id)) ((sums id 0 n dc) .read s p)
+    stepping-done h =
+        let m : n - i ≡ 0 = omega arith in
+        let f : mapOutcome (sets a (64 * id + i)) ((sums id i (n - i) sum) .read s q) ≡ value a q = rw (m, sums-end id i sum s q) in
+        sym f ∙ R .left
+
+-- ---- the delta
+
+pub ueTo-read : (most : ℕ) (s : List ℕ) (p : ℕ) → (ueTo most) .read s p ≡ _then_ (readUe s p) (λ v q. cond (leb v most) (value v q) (refused 2))
+unfolding ueTo judged ue
+ueTo-read most s p = refl
