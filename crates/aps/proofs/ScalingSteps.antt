@@ -15,8 +15,11 @@ use lib.Seq.{sets}
 use Rattle.bitstream.specs.Outcome.{Outcome, value, refused, mapOutcome, _then_}
 use Rattle.bitstream.specs.Fields.{readUe, readSe, seValue}
 use Rattle.aps.specs.Codec.{Codec, ue, _▷_, via, judged, Inferred, when, eachFrom}
-use Rattle.aps.specs.Elements.{se, seIn, ueTo}
-use Rattle.aps.specs.ScalingSyntax.{skipped, entries, just, step, stepAt, sums, cons, dcAt, coefficients, entrySyntax, idAt}
+use Rattle.aps.specs.Elements.{flag, se, seIn, ueTo}
+use Rattle.aps.specs.ScalingSyntax.{skipped, entries, idCoded, step, stepAt, sums, cons, Entry, coefficients, dcAt, deltaAt, entrySyntax, idAt, storedList, stored}
+use Rattle.aps.specs.Reading.{EndsBy, outcomeStop}
+use Rattle.aps.specs.declared.fields.Stop.{Stop}
+use Rattle.aps.specs.declared.fields.Stop.the-variants as Stop
 use Rattle.aps.proofs.SignedLaws.{add-abs, not-ltZ}
 
 -- the values that a reading can give
@@ -196,3 +199,86 @@ module _ (id n : ℕ) (dc : ℤ) (s : List ℕ) (p : ℕ) (a₀ : List ℤ) wher
 pub ueTo-read : (most : ℕ) (s : List ℕ) (p : ℕ) → (ueTo most) .read s p ≡ _then_ (readUe s p) (λ v q. cond (leb v most) (value v q) (refused 2))
 unfolding ueTo judged ue
 ueTo-read most s p = refl
+
+-- ---- what a callee stored, in the caller's answer
+
+pub stop-ends : {A B : Type 0} (t : Stop) (x : A) (y : B) (m n : ℕ) → m ≤ n → EndsBy (outcomeStop t x) m → EndsBy (outcomeStop t y) n
+stop-ends (Stop.End q) x y m n h e = omega arith
+stop-ends (Stop.Refused k) x y m n h e = tt
+
+-- f of what the callee read is g of what the caller reads
+stop-map : {A B C D : Type 0} (f : A → B) (g : C → B) (h : D → A) (k : D → C) → ((d : D) → f (h d) ≡ g (k d)) → (t : Stop) (x : A) (o : Outcome D)
+    → outcomeStop t x ≡ mapOutcome h o → outcomeStop t (f x) ≡ mapOutcome g (mapOutcome k o)
+stop-map {B = B} {D = D} f g h k same t x o e = one t ∙ ap (mapOutcome f) e ∙ two o
+  where
+    one : (t : Stop) → outcomeStop t (f x) ≡ mapOutcome f (outcomeStop t x)
+    one (Stop.End q) = refl
+    one (Stop.Refused n) = refl
+
+    two : (o : Outcome D) → mapOutcome f (mapOutcome h o) ≡ mapOutcome g (mapOutcome k o)
+    two (value d q) = ap (λ (b : B). value b q) (same d)
+    two (refused n) = refl
+
+-- ---- the DC and the steps
+
+pub dc-small : (id : ℕ) (s : List ℕ) (p : ℕ) → Gives Small ((dcAt id) .read s p)
+unfolding when
+dc-small id s p = go (ltb 13 id)
+  where
+    go : (b : Bool) → Gives Small (cond b (se8 .read s p) (value (pos 0) p))
+    go true = se8-small s p
+    go false = omega arith
+
+module _ (id : ℕ) (s : List ℕ) (p : ℕ) where
+  pub dc-refused : {n : ℕ} → (dcAt id) .read s p ≡ refused n → (coefficients id) .read s p ≡ refused n
+  unfolding coefficients _▷_
+  dc-refused e = rw e
+
+  dc-value : {dc : ℤ} {q : ℕ} → (dcAt id) .read s p ≡ value dc q → (coefficients id) .read s p ≡ mapOutcome (λ l. (dc, l)) ((sums id 0 (entries id) dc) .read s q)
+  unfolding coefficients _▷_
+  dc-value {dc = dc} {q = q} e = rw e (go ((sums id 0 (entries id) dc) .read s q))
+    where
+      go : (o : Outcome (List ℤ)) → _then_ {B = ℤ × List ℤ} o (λ l r. value (dc, l) r) ≡ mapOutcome (λ l. (dc, l)) o
+      go (value l r) = refl
+      go (refused n) = refl
+
+  pub coefficients-stored : {dc : ℤ} {q : ℕ} → (dcAt id) .read s p ≡ value dc q → (t : Stop) (a a′ : List ℤ)
+      → outcomeStop t a′ ≡ mapOutcome (sets a (64 * id)) ((sums id 0 (entries id) dc) .read s q)
+      → outcomeStop {A = ℤ × List ℤ} t (dc, a′) ≡ mapOutcome (storedList a id) ((coefficients id) .read s p)
+  coefficients-stored {dc = dc} {q = q} e t a a′ r =
+      rw (dc-value e)
+      (stop-map (λ (l : List ℤ). (dc, l)) (storedList a id) (sets a (64 * id)) (λ l. (dc, l)) (λ l. refl) t a′ ((sums id 0 (entries id) dc) .read s q) r)
+
+-- ---- one id
+
+module _ (id : ℕ) (s : List ℕ) (p q : ℕ) where
+  module _ (e : flag .read s p ≡ value true q) where
+    pub copy-refused : {n : ℕ} → (deltaAt id true) .read s q ≡ refused n → (entrySyntax id) .read s p ≡ refused n
+    unfolding entrySyntax _▷_ when
+    copy-refused f = rw (e, f)
+
+    pub copy-value : {delta r : ℕ} → (deltaAt id true) .read s q ≡ value delta r → (entrySyntax id) .read s p ≡ value (true, (false, (delta, (pos 0, [])))) r
+    unfolding entrySyntax _▷_ when
+    copy-value f = rw (e, f)
+
+  module _ (e : flag .read s p ≡ value false q) {pred : Bool} {r : ℕ} (f : flag .read s q ≡ value pred r) where
+    pub delta-refused : {n : ℕ} → (deltaAt id pred) .read s r ≡ refused n → (entrySyntax id) .read s p ≡ refused n
+    unfolding entrySyntax _▷_ when
+    delta-refused g = rw (e, f, g)
+
+    delta-value : {delta t : ℕ} → (deltaAt id pred) .read s r ≡ value delta t → (entrySyntax id) .read s p ≡ mapOutcome (λ x. (false, (pred, (delta, x)))) ((coefficients id) .read s t)
+    unfolding entrySyntax _▷_ when
+    delta-value {delta = delta} {t = t} g = rw (e, f, g) (go ((coefficients id) .read s t))
+      where
+        go : (o : Outcome (ℤ × List ℤ))
+            → _then_ {B = Entry} (_then_ {B = Bool × (ℕ × (ℤ × List ℤ))} (_then_ {B = ℕ × (ℤ × List ℤ)} o (λ x z. value (delta, x) z)) (λ x z. value (pred, x) z)) (λ x z. value (false, x) z)
+            ≡ mapOutcome (λ x. (false, (pred, (delta, x)))) o
+        go (value x z) = refl
+        go (refused n) = refl
+
+    pub entry-stored : {delta t : ℕ} → (deltaAt id pred) .read s r ≡ value delta t → (k : Stop) (dc : ℤ) (a a′ : List ℤ)
+        → outcomeStop {A = ℤ × List ℤ} k (dc, a′) ≡ mapOutcome (storedList a id) ((coefficients id) .read s t)
+        → outcomeStop {A = Entry} k (false, (pred, (delta, (dc, a′)))) ≡ mapOutcome (stored a id) ((entrySyntax id) .read s p)
+    entry-stored {delta = delta} {t = t} g k dc a a′ o =
+        rw (delta-value g)
+        (stop-map {B = Entry} (λ (x : ℤ × List ℤ). (false, (pred, (delta, x)))) (stored a id) (storedList a id) (λ x. (false, (pred, (delta, x)))) (λ x. refl) k (dc, a′) ((coefficients id) .read s t) o)
