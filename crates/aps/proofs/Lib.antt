@@ -1,5 +1,6 @@
 pub mod Bounds
 pub mod PairLaws
+pub mod ScalingKeep
 pub mod ScalingSteps
 pub mod SignedLaws
 pub mod Steps

@@ -15,8 +15,8 @@ use lib.Seq.{sets}
 use Rattle.bitstream.specs.Outcome.{Outcome, value, refused, mapOutcome, _then_}
 use Rattle.bitstream.specs.Fields.{readUe, readSe, seValue}
 use Rattle.aps.specs.Codec.{Codec, ue, _▷_, via, judged, Inferred, when, eachFrom}
-use Rattle.aps.specs.Elements.{flag, se, seIn, ueTo}
-use Rattle.aps.specs.ScalingSyntax.{skipped, entries, idCoded, step, stepAt, sums, cons, Entry, coefficients, dcAt, deltaAt, entrySyntax, idAt, storedList, stored}
+use Rattle.aps.specs.Elements.{flag, se, seIn, ueTo, noFlag, noPair}
+use Rattle.aps.specs.ScalingSyntax.{skipped, entries, idCoded, just, step, stepAt, sums, cons, Entry, coefficients, dcAt, deltaAt, noEntries, noEntry, entrySyntax, idAt, storedList, stored}
 use Rattle.aps.specs.Reading.{EndsBy, outcomeStop}
 use Rattle.aps.specs.declared.fields.Stop.{Stop}
 use Rattle.aps.specs.declared.fields.Stop.the-variants as Stop
@@ -35,6 +35,23 @@ module _ {A B : Type 0} where
   gives-then : (P : A → Type 0) (Q : B → Type 0) (o : Outcome A) (f : A → ℕ → Outcome B) → Gives P o → ((a : A) (q : ℕ) → P a → Gives Q (f a q)) → Gives Q (_then_ o f)
   gives-then P Q (value a q) f g h = h a q g
   gives-then P Q (refused e) f g h = tt
+
+  gives-▷ : (c : Codec A) (k : A → Codec B) (P : A × B → Type 0) (s : List ℕ) (p : ℕ) → ((a : A) (q : ℕ) → Gives (λ b. P (a, b)) ((k a) .read s q)) → Gives P ((c ▷ k) .read s p)
+  unfolding _▷_
+  gives-▷ c k P s p h = first (c .read s p)
+    where
+      last : (a : A) (o : Outcome B) → Gives (λ b. P (a, b)) o → Gives P (_then_ {B = A × B} o (λ b r. value (a, b) r))
+      last a (value b r) g = g
+      last a (refused e) g = tt
+
+      first : (o : Outcome A) → Gives P (_then_ {B = A × B} o (λ a q. _then_ ((k a) .read s q) (λ b r. value (a, b) r)))
+      first (value a q) = last a ((k a) .read s q) (h a q)
+      first (refused e) = tt
+
+gives-when : {A : Type 0} (b : Bool) (d : Inferred A) (c : Codec A) (P : A → Type 0) (s : List ℕ) (p : ℕ) → Gives P (c .read s p) → P (d .default) → Gives P ((when b d c) .read s p)
+unfolding when
+gives-when true d c P s p g h = g
+gives-when false d c P s p g h = h
 
 -- ---- se(v) in a range
 
@@ -222,12 +239,7 @@ stop-map {B = B} {D = D} f g h k same t x o e = one t ∙ ap (mapOutcome f) e �
 -- ---- the DC and the steps
 
 pub dc-small : (id : ℕ) (s : List ℕ) (p : ℕ) → Gives Small ((dcAt id) .read s p)
-unfolding when
-dc-small id s p = go (ltb 13 id)
-  where
-    go : (b : Bool) → Gives Small (cond b (se8 .read s p) (value (pos 0) p))
-    go true = se8-small s p
-    go false = omega arith
+dc-small id s p = gives-when (ltb 13 id) (just (pos 0)) se8 Small s p (se8-small s p) (omega arith)
 
 module _ (id : ℕ) (s : List ℕ) (p : ℕ) where
   pub dc-refused : {n : ℕ} → (dcAt id) .read s p ≡ refused n → (coefficients id) .read s p ≡ refused n
@@ -282,3 +294,28 @@ module _ (id : ℕ) (s : List ℕ) (p q : ℕ) where
     entry-stored {delta = delta} {t = t} g k dc a a′ o =
         rw (delta-value g)
         (stop-map {B = Entry} (λ (x : ℤ × List ℤ). (false, (pred, (delta, x)))) (stored a id) (storedList a id) (λ x. (false, (pred, (delta, x)))) (λ x. refl) k (dc, a′) ((coefficients id) .read s t) o)
+
+-- a list has at most 64 entries
+abbrev pub Short : Entry → Type 0
+Short e = length (e .1 .1 .1 .1) ≤ 64
+
+coefficients-short : (id : ℕ) (s : List ℕ) (p : ℕ) → Gives (λ (x : ℤ × List ℤ). length (x .1) ≤ 64) ((coefficients id) .read s p)
+unfolding coefficients
+coefficients-short id s p =
+    gives-▷ (dcAt id) (λ dc. sums id 0 (entries id) dc) (λ x. length (x .1) ≤ 64) s p λ dc q.
+    few ((sums id 0 (entries id) dc) .read s q) (sums-length id 0 (entries id) dc s q)
+  where
+    few : (o : Outcome (List ℤ)) → Gives (λ l. length l ≡ entries id) o → Gives (λ l. length l ≤ 64) o
+    few (value l q) h = omega (arith, entries-le id)
+    few (refused e) h = tt
+
+entry-short : (id : ℕ) (s : List ℕ) (p : ℕ) → Gives Short ((entrySyntax id) .read s p)
+unfolding entrySyntax
+entry-short id s p =
+    gives-▷ flag _ Short s p λ copy q.
+    gives-▷ (when (not copy) noFlag flag) _ (λ x. length (x .1 .1 .1) ≤ 64) s q λ pred r.
+    gives-▷ (deltaAt id (copy || pred)) _ (λ x. length (x .1 .1) ≤ 64) s r λ delta t.
+    gives-when (not copy) (noPair (just (pos 0)) noEntries) (coefficients id) (λ x. length (x .1) ≤ 64) s t (coefficients-short id s t) (omega arith)
+
+pub id-short : (chroma : Bool) (id : ℕ) (s : List ℕ) (p : ℕ) → Gives Short ((idAt chroma id) .read s p)
+id-short chroma id s p = gives-when (idCoded chroma id) noEntry (entrySyntax id) Short s p (entry-short id s p) (omega arith)
