@@ -1,7 +1,7 @@
+pub mod Below
 pub mod Bounds
 pub mod PairLaws
 pub mod ScalingKeep
 pub mod ScalingSteps
 pub mod SignedLaws
 pub mod Steps
-pub mod Table

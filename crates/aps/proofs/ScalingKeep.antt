@@ -3,7 +3,6 @@ use mathlib.Core.Path.{_≡_, refl, sym, ap, _∙_}
 use mathlib.Core.Bool.{Bool, true, false, cond}
 use mathlib.Core.List.{List, [], _∷_, _++_, map}
 use Prim.Native.Nat.{ℕ, zero, suc, _+_, _-_, _*_, _≤_, _<_}
-use native.Mathlib.Nat.{add-suc, suc-add, zero-add}
 use native.Mathlib.Omega.{arith}
 use borrow.Author.Tests.{ltb-true, ltb-false}
 use lib.Dec.{ltb}
@@ -11,7 +10,6 @@ use lib.IntN.{ℤ, pos}
 use lib.ListN.{length, getD, take, drop, set, replicate, length-append, length-replicate}
 use lib.Seq.{sets, drop-cons, drop-set-lt, drop-set-add, length-take-le}
 use Rattle.bitstream.specs.Outcome.{Outcome, value, refused, mapOutcome}
-use Rattle.aps.specs.Codec.{Codec, each}
 use Rattle.aps.specs.Elements.{joined}
 use Rattle.aps.specs.ScalingSyntax.{Entry, idAt, scalingSyntax, filled, keep, stored}
 use Rattle.aps.specs.declared.scaling_list.VvcScalingListData.{VvcScalingListData}

@@ -51,14 +51,8 @@ struct IdRead {
     dc: i32,
 }
 
-// The positions of the diagonal scan (6.5.2) in column 4 or more and row 4 or more.
-const CORNER: [bool; 64] = [
-    false, false, false, false, false, false, false, false, false, false, false, false, false, false,
-    false, false, false, false, false, false, false, false, false, false, false, false, false, false,
-    false, false, false, false, false, false, false, false, false, false, false, true, false, false,
-    false, false, false, true, true, false, false, false, true, true, true, false, true, true, true,
-    true, true, true, true, true, true, true,
-];
+// Bit i: position i of the diagonal scan (6.5.2) is in column 4 or more and row 4 or more.
+const CORNER: u64 = 0xFFDC_6080_0000_0000;
 
 pub(crate) fn zero_scaling() -> VvcScalingListData
     ensures { λ r. ⌜ r ≡ zeroScaling ⌝ }
@@ -118,7 +112,7 @@ pub(crate) fn step_skipped(id: usize, i: usize) -> bool
     ensures { λ r. ⌜ r ≡ skipped id i ⌝ }
 {
     if 25 < id {
-        return CORNER[i];
+        return (CORNER >> i as u64) % 2 == 1;
     }
     false
 }

@@ -1,12 +1,10 @@
 -- `read_entry`: a copy has a delta alone; another id has its prediction flag, delta, DC and steps.
 use mathlib.Core.Path.{_≡_, sym, ap, _∙_}
 use mathlib.Core.Bool.{Bool, true, false}
-use mathlib.Core.List.{List}
-use Prim.Native.Nat.{ℕ, _+_, _≤_}
+use Prim.Native.Nat.{_+_, _≤_}
 use native.Mathlib.Omega.{arith}
 use denote.Ref.{now}
 use mir.Syntax.{w32}
-use mir.Val.{toZ, ofZ}
 use mir.Facts.{toZ-ofZ}
 use Rattle.bitstream.specs.Outcome.{value}
 use Rattle.bitstream.specs.Reading.{outcomeU}
@@ -18,11 +16,6 @@ use Rattle.aps.proofs.ScalingSteps.{copy-refused, copy-value, delta-ref
 use borrow.Author.Needs.{needs}
 use Rattle.aps.proofs.scaling_list.read_entry.Statement.{statement}
 use Rattle.aps.proofs.scaling_list.read_entry.Tie as tie
-use Rattle.aps.proofs.scaling_list.read_entry.Reads as reads
-use Rattle.aps.proofs.scaling_list.read_entry.Lts as lts
-use Rattle.aps.proofs.fields.read_flag.Reads as read-flag-reads
-use Rattle.aps.proofs.scaling_list.read_coefficients.Reads as read-coefficients-reads
-use Rattle.aps.proofs.scaling_list.read_delta.Reads as read-delta-reads
 
 read-flag-requires : tie.Need-read-flag-requires
 read-flag-requires c κs = search needs

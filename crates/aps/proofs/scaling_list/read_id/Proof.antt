@@ -1,6 +1,6 @@
 -- `read_id`: an uncoded id takes no bits, and its list stays as it was.
 use borrow.Author.Needs.{needs}
-use mathlib.Core.Path.{_≡_, sym, _∙_}
+use mathlib.Core.Path.{sym, _∙_}
 use native.Mathlib.Omega.{arith}
 use Rattle.aps.proofs.Steps.{when-read}
 use Rattle.aps.proofs.scaling_list.read_id.Statement.{statement}

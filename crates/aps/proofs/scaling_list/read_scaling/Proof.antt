@@ -1,7 +1,7 @@
 -- `read_scaling`: the loop's arrays are what is kept of the ids before `id`.
 use borrow.Author.Needs.{needs}
-use mathlib.Core.Path.{_≡_, sym, ap, _∙_}
-use Prim.Native.Nat.{_-_, _≤_}
+use mathlib.Core.Path.{sym, ap, _∙_}
+use Prim.Native.Nat.{_-_}
 use native.Mathlib.Omega.{arith}
 use mir.Syntax.{w32}
 use mir.Facts.{toZ-ofZ}
@@ -12,11 +12,6 @@ use Rattle.aps.proofs.Bounds.{ends-at}
 use Rattle.aps.proofs.ScalingKeep.{Keeping, keeping-start, keeping-more, keeping-refused, keeping-done}
 use Rattle.aps.proofs.scaling_list.read_scaling.Statement.{statement}
 use Rattle.aps.proofs.scaling_list.read_scaling.Tie as tie
-use Rattle.aps.proofs.scaling_list.read_scaling.Reads as reads
-use Rattle.aps.proofs.scaling_list.read_scaling.Lts as lts
-use Rattle.aps.proofs.scaling_list.read_id.Reads as read-id-reads
-use Rattle.aps.proofs.scaling_list.store_dc.Reads as store-dc-reads
-use Rattle.aps.proofs.scaling_list.zero_scaling.Reads as zero-scaling-reads
 
 abbrev Inv-loop : tie.InvT-loop
 Inv-loop bytes p chroma copy₀ pred₀ delta₀ dc₀ list₀ at₀ id₀ copy pred delta dc list at id = Keeping chroma bytes p id copy pred delta dc list at

@@ -5,7 +5,6 @@ use denote.Ref.{now}
 use mir.Syntax.{w32}
 use mir.Val.{toZ, ofZ}
 use mir.Facts.{toZ-ofZ}
-use Prim.Native.Nat.{_+_}
 use Rattle.bitstream.specs.Outcome.{value}
 use Rattle.bitstream.specs.Fields.{readSe}
 use Rattle.bitstream.specs.Reading.{outcomeS}

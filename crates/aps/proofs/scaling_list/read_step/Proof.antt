@@ -1,16 +1,14 @@
 -- `read_step`: a skipped step repeats the sum, and a sum of two small numbers fits.
 use borrow.Author.Needs.{needs}
 use mathlib.Core.Path.{_≡_, sym, ap, _∙_}
-use mathlib.Core.Bool.{true, false}
 use native.Mathlib.Omega.{arith}
 use denote.Ref.{now}
-use lib.IntN.{natAbs, _+ℤ_}
+use lib.IntN.{_+ℤ_}
 use mir.Syntax.{w32}
 use mir.Val.{toZ, ofZ, SFits}
 use mir.Facts.{toZ-ofZ}
 use Rattle.bitstream.specs.Outcome.{value}
 use Rattle.bitstream.specs.Reading.{outcomeS}
-use Rattle.aps.specs.ScalingSyntax.{skipped}
 use Rattle.aps.proofs.Bounds.{ends-at}
 use Rattle.aps.proofs.SignedLaws.{abs-fits, add-abs}
 use Rattle.aps.proofs.ScalingSteps.{se8, Small, given, se8-small, step-skip, step-refused, step-value}

@@ -3,9 +3,8 @@ use borrow.Author.Needs.{needs}
 use mathlib.Core.Path.{_≡_, sym, ap, _∙_}
 use Prim.Native.Nat.{_≤_, _-_}
 use native.Mathlib.Omega.{arith}
-use denote.Ref.{now}
 use mir.Syntax.{w32}
-use mir.Val.{toZ, ofZ, SFits}
+use mir.Val.{toZ, ofZ}
 use mir.Facts.{toZ-ofZ}
 use Rattle.bitstream.specs.Reading.{outcomeS}
 use Rattle.aps.proofs.Bounds.{ends-at}

@@ -1,19 +1,14 @@
--- `step_skipped`: the table's rule is a test at each of its entries.
+-- `step_skipped`: the rule of the 64 bits is one computed test.
 use borrow.Author.Needs.{needs}
 use borrow.Author.Tests.{lt-ltb, le-ltb}
 use mathlib.Core.Path.{_≡_, refl, sym}
 use mathlib.Core.Bool.{Bool, true, false, cond, not, _&&_}
-use mathlib.Core.List.{List, [], _∷_}
-use Prim.Native.Nat.{ℕ, _<_}
-use lib.Dec.{leb}
-use lib.ListN.{getD}
+use Prim.Native.Nat.{ℕ, _/_, _%_, _^_, _<_}
+use lib.Dec.{leb, eqb}
 use Rattle.aps.specs.ScalingSyntax.{diagNext, diagScan, skipped}
-use Rattle.aps.proofs.Table.{table-rule}
+use Rattle.aps.proofs.Below.{below-rule}
 use Rattle.aps.proofs.scaling_list.step_skipped.Statement.{statement}
 use Rattle.aps.proofs.scaling_list.step_skipped.Tie as tie
-
-abbrev corner : List Bool
-corner = false ∷ false ∷ false ∷ false ∷ false ∷ false ∷ false ∷ false ∷ false ∷ false ∷ false ∷ false ∷ false ∷ false ∷ false ∷ false ∷ false ∷ false ∷ false ∷ false ∷ false ∷ false ∷ false ∷ false ∷ false ∷ false ∷ false ∷ false ∷ false ∷ false ∷ false ∷ false ∷ false ∷ false ∷ false ∷ false ∷ false ∷ false ∷ false ∷ true ∷ false ∷ false ∷ false ∷ false ∷ false ∷ true ∷ true ∷ false ∷ false ∷ false ∷ true ∷ true ∷ true ∷ false ∷ true ∷ true ∷ true ∷ true ∷ true ∷ true ∷ true ∷ true ∷ true ∷ true ∷ []
 
 abbrev same : Bool → Bool → Bool
 same a b = cond a b (not b)
@@ -24,15 +19,18 @@ same-true true false e = sym e
 same-true false true e = e
 same-true false false e = refl
 
+abbrev bit : ℕ → Bool
+bit i = eqb (18436717077420048384 / 2 ^ i % 2) 1
+
 abbrev inCorner : ℕ → Bool
 inCorner i = leb 4 (diagScan i .0) && leb 4 (diagScan i .1)
 
-array-read-result : tie.Need-array-read-result
-array-read-result c = search needs
-
-rule : (i : ℕ) → i < 64 → getD corner i false ≡ inCorner i
+rule : (i : ℕ) → i < 64 → bit i ≡ inCorner i
 unfolding diagNext diagScan
-rule i h = same-true (getD corner i false) (inCorner i) (table-rule (λ k b. same b (inCorner k)) false corner refl i h)
+rule i h = same-true (bit i) (inCorner i) (below-rule (λ k. same (bit k) (inCorner k)) 64 refl i h)
+
+shr-result : tie.Need-shr-result
+shr-result c = search needs
 
 returns : tie.Need-returns
 unfolding skipped
@@ -43,4 +41,4 @@ unfolding skipped
 returns-2 c = rw (le-ltb _ _ (c .if1 .left))
 
 pub step-skipped-spec : {M : Type 1} → statement M
-step-skipped-spec = tie.close (tie.spec array-read-result returns returns-2)
+step-skipped-spec = tie.close (tie.spec shr-result returns returns-2)
