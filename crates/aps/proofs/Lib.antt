@@ -15,8 +15,12 @@ pub mod RbspLaws
 pub mod LocalLaws
 pub mod Marked
 pub mod Answers
+pub mod Below
 pub mod Bounds
+pub mod SignedLaws
 pub mod Steps
 pub mod LmcsSteps
+pub mod ScalingKeep
+pub mod ScalingSteps
 pub mod RbspSteps
 pub mod UnitSteps
