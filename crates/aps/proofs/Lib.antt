@@ -1,3 +1,4 @@
+pub mod AlfSteps
 pub mod Bounds
 pub mod PairLaws
 pub mod Steps

@@ -1,4 +1,28 @@
 // alf_data(), H.266 7.3.2.18.
+use crate::fields::SignedField;
+use crate::fields::Stop;
+use crate::fields::read_flag;
+use crate::fields::read_signed;
+use crate::fields::read_u;
+use crate::fields::read_ue;
+use bitstream::Refusal;
+use bitstream::bit_reader::FieldU;
+ghost use mathlib.Core.Path.{_≡_};
+ghost use mathlib.Core.Bool.{false};
+ghost use Prim.Native.Nat.{ℕ, _+_, _*_, _≤_, _<_};
+ghost use lib.Dec.{ltb};
+ghost use lib.ListN.{length, replicate};
+ghost use lib.Seq.{sets};
+ghost use Rattle.bitstream.specs.Outcome.{_then_, mapOutcome};
+ghost use Rattle.bitstream.specs.Reading.{outcomeU};
+ghost use Rattle.aps.specs.Codec.{u, when, each};
+ghost use Rattle.aps.specs.Elements.{ueTo, noNumber, noSigned, apart, zipped};
+ghost use Rattle.aps.specs.AlfSyntax.{ceilLog2, coefficient, luma, lumaIndexes, lumaFilters, toLuma, noLuma};
+ghost use Rattle.aps.specs.AlfSyntax.{chroma, alternative, alternatives, toChroma, noChroma, cc, ccCoefficients, toCc, noCc};
+ghost use Rattle.aps.specs.AlfSyntax.{alf, alfFilters, toAlf};
+ghost use Rattle.aps.specs.ApsSyntax.{zeroAlf};
+ghost use Rattle.aps.specs.Reading.{EndsBy, outcomeStop, outcomeSigned};
+
 // Luma filters: row r of the flat arrays is at 12 * r.
 pub struct VvcAlfLuma {
     pub alf_luma_clip_flag: bool,
@@ -34,4 +58,129 @@ pub struct VvcAlfData {
     pub chroma: VvcAlfChroma,
     pub cc_cb: VvcAlfCcFilters,
     pub cc_cr: VvcAlfCcFilters,
+}
+
+// What reading the luma filters, the chroma filters, those of Cb or Cr, and the whole gives; a refusal's record is not said.
+pub(crate) struct LumaRead {
+    stop: Stop,
+    luma: VvcAlfLuma,
+}
+
+pub(crate) struct ChromaRead {
+    stop: Stop,
+    chroma: VvcAlfChroma,
+}
+
+pub(crate) struct CcRead {
+    stop: Stop,
+    cc: VvcAlfCcFilters,
+}
+
+pub(crate) struct AlfRead {
+    stop: Stop,
+    alf: VvcAlfData,
+}
+
+pub(crate) fn no_luma() -> VvcAlfLuma
+    ensures { λ r. ⌜ r ≡ toLuma (noLuma .default) ⌝ }
+{
+    VvcAlfLuma {
+        alf_luma_clip_flag: false,
+        alf_luma_num_filters_signalled_minus1: 0,
+        alf_luma_coeff_delta_idx: [0; 25],
+        coeff_abs: [0; 300],
+        coeff_sign: [false; 300],
+        clip_idx: [0; 300],
+    }
+}
+
+pub(crate) fn no_chroma() -> VvcAlfChroma
+    ensures { λ r. ⌜ r ≡ toChroma (noChroma .default) ⌝ }
+{
+    VvcAlfChroma {
+        alf_chroma_clip_flag: false,
+        alf_chroma_num_alt_filters_minus1: 0,
+        coeff_abs: [0; 48],
+        coeff_sign: [false; 48],
+        clip_idx: [0; 48],
+    }
+}
+
+pub(crate) fn no_cc() -> VvcAlfCcFilters
+    ensures { λ r. ⌜ r ≡ toCc (noCc .default) ⌝ }
+{
+    VvcAlfCcFilters {
+        filters_signalled_minus1: 0,
+        mapped_coeff_abs: [0; 28],
+        coeff_sign: [false; 28],
+    }
+}
+
+pub(crate) fn zero_alf() -> VvcAlfData
+    ensures { λ r. ⌜ r ≡ zeroAlf ⌝ }
+{
+    VvcAlfData {
+        alf_luma_filter_signal_flag: false,
+        alf_chroma_filter_signal_flag: false,
+        alf_cc_cb_filter_signal_flag: false,
+        alf_cc_cr_filter_signal_flag: false,
+        luma: no_luma(),
+        chroma: no_chroma(),
+        cc_cb: no_cc(),
+        cc_cr: no_cc(),
+    }
+}
+
+// Ceil( Log2( x ) ).
+pub(crate) fn ceil_log2(x: u32) -> u32
+    ensures { λ r. ⌜ (r ≡ ceilLog2 x) × (r ≤ 32) ⌝ }
+{
+    if x <= 1 {
+        return 0;
+    }
+    32 - u32::leading_zeros(x - 1)
+}
+
+// ue(v) in 0..most.
+pub(crate) fn read_ue_to(bytes: &[u8], p: usize, most: u32) -> FieldU
+    requires { ⌜ (length (now bytes) ≤ 65536) × (p ≤ 900000) ⌝ }
+    ensures { λ r. ⌜ (outcomeU r ≡ (ueTo most) .read (now (bytes .entry)) p) × EndsBy (outcomeU r) (p + 63) ⌝ }
+{
+    let field = read_ue(bytes, p);
+    match field {
+        FieldU::Value(v, r) => {
+            if v <= most {
+                FieldU::Value(v, r)
+            } else {
+                FieldU::Refused(Refusal::InvalidData)
+            }
+        }
+        FieldU::Refused(why) => FieldU::Refused(why),
+    }
+}
+
+// A magnitude in 0..128, and its sign if it is not 0.
+pub(crate) fn read_coefficient(bytes: &[u8], p: usize) -> SignedField
+    requires { ⌜ (length (now bytes) ≤ 65536) × (p ≤ 900000) ⌝ }
+    ensures { λ r. ⌜ (outcomeSigned r ≡ coefficient .read (now (bytes .entry)) p) × EndsBy (outcomeSigned r) (p + 64) ⌝ }
+{
+    let magnitude = read_ue_to(bytes, p, 128);
+    match magnitude {
+        FieldU::Value(abs, r) => {
+            let q = r.bit_pos;
+            if abs == 0 {
+                return SignedField::Value {
+                    abs: 0,
+                    sign: false,
+                    next: q,
+                };
+            }
+            SignedField::Value {
+                abs,
+                sign: read_flag(bytes, q),
+                next: q + 1,
+            }
+        }
+        FieldU::Refused(why) => SignedField::Refused(why),
+    }
 }
