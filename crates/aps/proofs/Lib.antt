@@ -2,3 +2,4 @@ pub mod AlfSteps
 pub mod Bounds
 pub mod PairLaws
 pub mod Steps
+pub mod StopLaws

@@ -22,6 +22,7 @@ ghost use Rattle.aps.specs.AlfSyntax.{chroma, alternative, alternatives,
 ghost use Rattle.aps.specs.AlfSyntax.{alf, alfFilters, toAlf};
 ghost use Rattle.aps.specs.ApsSyntax.{zeroAlf};
 ghost use Rattle.aps.specs.Reading.{EndsBy, outcomeStop, outcomeSigned};
+ghost use Rattle.aps.specs.Stops.{after, StopsBy, Spans};
 
 // Luma filters: row r of the flat arrays is at 12 * r.
 pub struct VvcAlfLuma {
@@ -183,4 +184,79 @@ pub(crate) fn read_coefficient(bytes: &[u8], p: usize) -> SignedField
         }
         FieldU::Refused(why) => SignedField::Refused(why),
     }
+}
+
+// The 25 indexes, each at most count - 1, if there is more than one filter.
+fn read_indexes(bytes: &[u8], p: usize, count_minus1: u32, idx: &mut [u8; 25]) -> Stop
+    requires { ⌜ (length (now bytes) ≤ 65536) × (p ≤ 100000) × («count_minus1» ≤ 24) × (now idx ≡ replicate 25 0) ⌝ }
+    ensures { λ r. ⌜ (outcomeStop r (now (idx .exit)) ≡ (lumaIndexes «count_minus1») .read (now (bytes .entry)) p) × StopsBy r (p + 800) ⌝ }
+{
+    if count_minus1 == 0 {
+        return Stop::End(p);
+    }
+    let bits = ceil_log2(count_minus1 + 1);
+    let mut at = p;
+    let mut i: usize = 0;
+    while i < 25 {
+        let x = read_u(bytes, at, bits);
+        if x > count_minus1 {
+            return Stop::Refused(Refusal::InvalidData);
+        }
+        idx[i] = x as u8;
+        at += bits as usize;
+        i += 1;
+    }
+    Stop::End(at)
+}
+
+// The first n coefficients of two arrays of zeros.
+fn read_coefficients(bytes: &[u8], from: Stop, n: usize, abs: &mut [u32], sign: &mut [bool]) -> Stop
+    requires { ⌜ (length (now bytes) ≤ 65536) × StopsBy from 200000 × (n ≤ length (now abs)) × (n ≤ 300)
+        × (now abs ≡ replicate (length (now abs)) 0) × (now sign ≡ replicate (length (now abs)) false) ⌝ }
+    ensures { λ r. ⌜ (outcomeStop r (now (abs .exit), now (sign .exit)) ≡ after from λ p.
+        (apart (each (length (now (abs .entry))) (λ i. when (ltb i n) noSigned coefficient))) .read (now (bytes .entry)) p)
+        × Spans from r (64 * n) ⌝ }
+{
+    let mut at = match from {
+        Stop::End(p) => p,
+        Stop::Refused(why) => return Stop::Refused(why),
+    };
+    let mut i: usize = 0;
+    while i < n {
+        let field = read_coefficient(bytes, at);
+        match field {
+            SignedField::Value {
+                abs: a,
+                sign: b,
+                next,
+            } => {
+                abs[i] = a;
+                sign[i] = b;
+                at = next;
+            }
+            SignedField::Refused(why) => return Stop::Refused(why),
+        }
+        i += 1;
+    }
+    Stop::End(at)
+}
+
+// The first n clips of an array of zeros.
+fn read_clips(bytes: &[u8], from: Stop, n: usize, clip: &mut [u8]) -> Stop
+    requires { ⌜ (length (now bytes) ≤ 65536) × StopsBy from 200000 × (n ≤ length (now clip)) × (n ≤ 300)
+        × (now clip ≡ replicate (length (now clip)) 0) ⌝ }
+    ensures { λ r. ⌜ (outcomeStop r (now (clip .exit)) ≡ after from λ p.
+        (each (length (now (clip .entry))) (λ i. when (ltb i n) noNumber (u 2))) .read (now (bytes .entry)) p)
+        × Spans from r (2 * n) ⌝ }
+{
+    let p = match from {
+        Stop::End(p) => p,
+        Stop::Refused(why) => return Stop::Refused(why),
+    };
+    let mut i: usize = 0;
+    while i < n {
+        clip[i] = read_u(bytes, p + 2 * i, 2) as u8;
+        i += 1;
+    }
+    Stop::End(p + 2 * n)
 }
