@@ -4,7 +4,7 @@ use mathlib.Core.Bool.{Bool}
 use mathlib.Core.List.{List}
 use Prim.Native.Nat.{ℕ, _+_, _≤_}
 use native.Mathlib.Omega.{arith}
-use Rattle.bitstream.specs.Outcome.{Outcome, value, refused, number, _then_}
+use Rattle.bitstream.specs.Outcome.{Outcome, value, refused, number, mapOutcome, _then_}
 use Rattle.bitstream.proofs.CodeLaws.{value-refused}
 use Rattle.aps.specs.Codec.{Codec, _▷_}
 use Rattle.aps.specs.Reading.{EndsBy, outcomeStop}
@@ -15,8 +15,21 @@ use Rattle.aps.specs.declared.fields.Stop.the-variants as Stop
 pub after-end : {A : Type 0} {from : Stop} {p : ℕ} (f : ℕ → Outcome A) → from ≡ Stop.End p → after from f ≡ f p
 after-end f e = ap (λ (t : Stop). after t f) e
 
+pub after-same : {A : Type 0} (from : Stop) (f g : ℕ → Outcome A) → ((p : ℕ) → f p ≡ g p) → after from f ≡ after from g
+after-same (Stop.End p) f g h = h p
+after-same (Stop.Refused e) f g h = refl
+
+-- the value read up to a stop, in another shape
+pub map-stop : {A B : Type 0} (f : A → B) (to : Stop) (a : A) {o : Outcome A} → outcomeStop to a ≡ o → outcomeStop to (f a) ≡ mapOutcome f o
+map-stop f (Stop.End q) a e = rw (← e)
+map-stop f (Stop.Refused n) a e = rw (← e)
+
 pub spans-end : {from : Stop} (p q n : ℕ) → from ≡ Stop.End p → q ≤ p + n → Spans from (Stop.End q) n
 spans-end p q n e h m k = let l : p ≤ m = rw e at k in omega arith
+
+pub ends-more : {A : Type 0} (o : Outcome A) (m n : ℕ) → EndsBy o m → m ≤ n → EndsBy o n
+ends-more (value a q) m n h l = omega arith
+ends-more (refused e) m n h l = tt
 
 module _ (to : Stop) (m : ℕ) where
   pub stops-more : (n : ℕ) → StopsBy to m → m ≤ n → StopsBy to n
