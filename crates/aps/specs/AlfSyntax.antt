@@ -92,6 +92,10 @@ chromaSyntax =
 abbrev pub noChroma : Inferred Chroma
 noChroma = noPair noFlag (noPair noNumber (noPair (noList 48 noSigned) (noList 48 noNumber)))
 
+-- magnitudes, signs and clips
+abbrev pub chromaArrays : List (ℕ × Bool) × List ℕ → List ℕ × (List Bool × List ℕ)
+chromaArrays x = (firsts (x .0), (seconds (x .0), x .1))
+
 unfoldable pub toChroma : Chroma → VvcAlfChroma
 toChroma x =
     record {

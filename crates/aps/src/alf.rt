@@ -16,9 +16,9 @@ ghost use lib.Seq.{sets};
 ghost use Rattle.bitstream.specs.Outcome.{_then_, mapOutcome};
 ghost use Rattle.bitstream.specs.Reading.{outcomeU};
 ghost use Rattle.aps.specs.Codec.{u, when, each};
-ghost use Rattle.aps.specs.Elements.{ueTo, noNumber, noSigned, apart, firsts, seconds, zipped};
+ghost use Rattle.aps.specs.Elements.{ueTo, noNumber, noSigned, apart, zipped};
 ghost use Rattle.aps.specs.AlfSyntax.{ceilLog2, coefficient, luma, lumaIndexes, lumaFilters, toLuma, noLuma};
-ghost use Rattle.aps.specs.AlfSyntax.{chroma, alternative, alternatives, toChroma, noChroma, cc, ccCoefficients, toCc, noCc};
+ghost use Rattle.aps.specs.AlfSyntax.{chroma, alternative, alternatives, chromaArrays, toChroma, noChroma, cc, ccCoefficients, toCc, noCc};
 ghost use Rattle.aps.specs.AlfSyntax.{alf, alfFilters, toAlf};
 ghost use Rattle.aps.specs.ApsSyntax.{zeroAlf};
 ghost use Rattle.aps.specs.Reading.{EndsBy, outcomeStop, outcomeSigned};
@@ -347,7 +347,7 @@ fn keep_alternative(
     sign: &mut [bool; 48],
     clip: &mut [u8; 48],
 )
-    requires { ⌜ (row < 8) × (length (now abs) ≡ 48) × (length (now sign) ≡ 48) × (length (now clip) ≡ 48) ⌝ }
+    requires { ⌜ row < 8 ⌝ }
     ensures { λ r. ⌜ (now (abs .exit) ≡ sets (now (abs .entry)) (6 * row) (from .abs)) × (now (sign .exit) ≡ sets (now (sign .entry)) (6 * row) (from .sign))
         × (now (clip .exit) ≡ sets (now (clip .entry)) (6 * row) (from .clip)) ⌝ }
 {
@@ -374,7 +374,7 @@ fn read_alternatives(
     requires { ⌜ (length (now bytes) ≤ 65536) × (p ≤ 100000) × («count_minus1» ≤ 7)
         × (now abs ≡ replicate 48 0) × (now sign ≡ replicate 48 false) × (now clips ≡ replicate 48 0) ⌝ }
     ensures { λ r. ⌜ (outcomeStop r (now (abs .exit), (now (sign .exit), now (clips .exit)))
-        ≡ mapOutcome (λ x. (firsts (x .0), (seconds (x .0), x .1))) ((alternatives clip «count_minus1») .read (now (bytes .entry)) p))
+        ≡ mapOutcome chromaArrays ((alternatives clip «count_minus1») .read (now (bytes .entry)) p))
         × StopsBy r (p + 3168) ⌝ }
 {
     let mut at = p;

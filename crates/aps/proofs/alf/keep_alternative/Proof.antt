@@ -1,73 +1,91 @@
+-- `keep_alternative`: the loop has stored the first j entries of each row.
+use borrow.Author.Needs.{needs}
+use mathlib.Core.Path.{_≡_, refl, sym, ap, _∙_}
+use mathlib.Core.Bool.{false}
+use Prim.Native.Nat.{ℕ, _+_, _-_, _*_, _≤_, _<_}
+use native.Mathlib.Omega.{arith}
+use lib.ListN.{length, take}
+use lib.Seq.{sets, length-sets}
+use Rattle.aps.proofs.RowLaws.{sets-more, sets-all}
 use Rattle.aps.proofs.alf.keep_alternative.Statement.{statement}
 use Rattle.aps.proofs.alf.keep_alternative.Tie as tie
 use Rattle.aps.proofs.alf.keep_alternative.Reads as reads
 use Rattle.aps.proofs.alf.keep_alternative.Lts as lts
 
 abbrev Inv-loop : tie.InvT-loop
-Inv-loop row abs₀ sign₀ clip₀ from j₀ abs sign clip j = ?
+Inv-loop row abs₀ sign₀ clip₀ from j₀ abs sign clip j =
+    (j ≤ 6) × (abs ≡ sets abs₀ (6 * row) (take j (from .abs))) × (sign ≡ sets sign₀ (6 * row) (take j (from .sign))) × (clip ≡ sets clip₀ (6 * row) (take j (from .clip)))
 
 abbrev μ-loop : tie.MeasureT-loop
-μ-loop row abs₀ sign₀ clip₀ from j₀ abs sign clip j = ?
+μ-loop row abs₀ sign₀ clip₀ from j₀ abs sign clip j = 6 - j
 
--- src/alf.rt:355:5
 loop-holds : tie.Need-loop-holds Inv-loop μ-loop
-loop-holds c = ?
+loop-holds c = (omega arith, refl, refl, refl)
 
--- src/alf.rt:356:17
 mul-i : tie.Need-mul-i Inv-loop μ-loop
-mul-i c = ?
+mul-i c = omega arith
 
--- src/alf.rt:356:17
 add-i : tie.Need-add-i Inv-loop μ-loop
-add-i c = ?
+add-i c = omega arith
 
--- src/alf.rt:357:18
 mul-abs : tie.Need-mul-abs Inv-loop μ-loop
-mul-abs c = ?
+mul-abs c = omega arith
 
--- src/alf.rt:357:18
 element-copy-out-abs : tie.Need-element-copy-out-abs Inv-loop μ-loop
-element-copy-out-abs c = ?
+element-copy-out-abs c = search needs
 
--- src/alf.rt:357:9
 mul-abs-2 : tie.Need-mul-abs-2 Inv-loop μ-loop
-mul-abs-2 c = ?
+mul-abs-2 c = omega arith
 
--- src/alf.rt:357:9
 element-write-abs : tie.Need-element-write-abs Inv-loop μ-loop
-element-write-abs c = ?
+element-write-abs c = omega arith
 
--- src/alf.rt:358:19
 element-copy-out-sign : tie.Need-element-copy-out-sign Inv-loop μ-loop
-element-copy-out-sign c = ?
+element-copy-out-sign c = search needs
 
--- src/alf.rt:358:9
 element-write-sign : tie.Need-element-write-sign Inv-loop μ-loop
-element-write-sign c = ?
+element-write-sign c = omega arith
 
--- src/alf.rt:359:19
 element-copy-out-clip : tie.Need-element-copy-out-clip Inv-loop μ-loop
-element-copy-out-clip c = ?
+element-copy-out-clip c = search needs
 
--- src/alf.rt:359:9
 element-write-clip : tie.Need-element-write-clip Inv-loop μ-loop
-element-write-clip c = ?
+element-write-clip c = omega arith
 
--- src/alf.rt:360:9
 add-j : tie.Need-add-j Inv-loop μ-loop
-add-j c = ?
+add-j c = omega arith
 
--- src/alf.rt:355:5
 loop-less : tie.Need-loop-less Inv-loop μ-loop
-loop-less c = ?
+loop-less c = omega arith
 
--- src/alf.rt:355:5
 loop-again : tie.Need-loop-again Inv-loop μ-loop
-loop-again c = ?
+loop-again c =
+    let l = c .before .before .before .before in
+    let a = l .before .args in
+    let o = l .loop in
+    let n : length (a .t1 .abs) ≡ 6 = search needs in
+    let m : length (a .t1 .sign) ≡ 6 = search needs in
+    let k : length (a .t1 .clip) ≡ 6 = search needs in
+    (
+      omega arith,
+      sets-more (a .abs .now) (o .abs) (6 * a .row) (a .t1 .abs) (o .j) 0 (omega arith) (o .inv .1),
+      sets-more (a .sign .now) (o .sign) (6 * a .row) (a .t1 .sign) (o .j) false (omega arith) (o .inv .2),
+      sets-more (a .clip .now) (o .clip) (6 * a .row) (a .t1 .clip) (o .j) 0 (omega arith) (o .inv .3),
+    )
 
--- src/alf.rt:343:1
 returns : tie.Need-returns Inv-loop μ-loop
-returns c = ?
+returns c =
+    let l = c .before in
+    let a = l .before .args in
+    let o = l .loop in
+    let n : length (a .t1 .abs) ≡ 6 = search needs in
+    let m : length (a .t1 .sign) ≡ 6 = search needs in
+    let k : length (a .t1 .clip) ≡ 6 = search needs in
+    (
+      sets-all (a .abs .now) (o .abs) (6 * a .row) (a .t1 .abs) (o .j) (omega arith) (o .inv .1),
+      sets-all (a .sign .now) (o .sign) (6 * a .row) (a .t1 .sign) (o .j) (omega arith) (o .inv .2),
+      sets-all (a .clip .now) (o .clip) (6 * a .row) (a .t1 .clip) (o .j) (omega arith) (o .inv .3),
+    )
 
 pub keep-alternative-spec : {M : Type 1} → statement M
 keep-alternative-spec =
