@@ -27,10 +27,6 @@ abbrev pub outcomeStop : {A : Type 0} → Stop → A → Outcome A
 outcomeStop (Stop.End q) a = value a q
 outcomeStop (Stop.Refused e) a = refused (number e)
 
-abbrev pub StopsBy : Stop → ℕ → Type 0
-StopsBy (Stop.End q) m = q ≤ m
-StopsBy (Stop.Refused e) m = Unit {0}
-
 abbrev pub outcomeSigned : SignedField → Outcome (ℕ × Bool)
 outcomeSigned (Signed.Value m s q) = value (m, s) q
 outcomeSigned (Signed.Refused e) = refused (number e)
