@@ -21,7 +21,7 @@ use Rattle.aps.specs.declared.alf.VvcAlfChroma.{VvcAlfChroma}
 use Rattle.aps.specs.declared.alf.VvcAlfCcFilters.{VvcAlfCcFilters}
 use Rattle.aps.specs.declared.alf.VvcAlfData.{VvcAlfData}
 use Rattle.aps.specs.AlfSyntax as Alf
-use Rattle.aps.proofs.Steps.{u-read, flag-read, signed-read, judged-read, when-read, Reading, reading-start, Reading2, reading2-start, apart-read}
+use Rattle.aps.proofs.Steps.{u-read, flag-read, signed-read, judged-read, when-read, Reading, reading-start, Reading2, reading2-start}
 
 pub ueTo-read : (most : ℕ) (s : List ℕ) (p : ℕ) → (ueTo most) .read s p ≡ _then_ (readUe s p) (λ v q. cond (leb v most) (value v q) (refused 2))
 unfolding ueTo judged ue
@@ -67,10 +67,9 @@ sent-test false i n = le-ltb i 0 (omega arith)
 
 module _ (n : ℕ) (s : List ℕ) (p : ℕ) where
   pub luma-coefficients : (apart (each 300 λ i. when (ltb i (12 * (n + 1))) noSigned coefficient)) .read s p ≡ (lumaCoefficients n) .read s p
+  unfolding apart via
   luma-coefficients =
-      let e : (each 300 λ i. when (ltb i (12 * (n + 1))) noSigned coefficient) .read s p ≡ (each 300 λ i. when (leb (i / 12) n) noSigned coefficient) .read s p
-      = each-same (λ i. when (ltb i (12 * (n + 1))) noSigned coefficient) (λ i. when (leb (i / 12) n) noSigned coefficient) s 300 p (λ j h q. rw (row-test j n)) in
-      rw (apart-read, e, ← apart-read)
+      rw (each-same (λ i. when (ltb i (12 * (n + 1))) noSigned coefficient) (λ i. when (leb (i / 12) n) noSigned coefficient) s 300 p (λ j h q. rw (row-test j n)))
 
   pub luma-clips : (clip : Bool) → (each 300 λ i. when (ltb i (cond clip (12 * (n + 1)) 0)) noNumber (u 2)) .read s p ≡ (lumaClips clip n) .read s p
   luma-clips clip =

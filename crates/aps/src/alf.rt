@@ -404,7 +404,15 @@ pub(crate) fn read_chroma(bytes: &[u8], p: usize) -> ChromaRead
             let mut abs = [0u32; 48];
             let mut sign = [false; 48];
             let mut clips = [0u8; 48];
-            let stop = read_alternatives(bytes, r.bit_pos, clip, n, &mut abs, &mut sign, &mut clips);
+            let stop = read_alternatives(
+                bytes,
+                r.bit_pos,
+                clip,
+                n,
+                &mut abs,
+                &mut sign,
+                &mut clips,
+            );
             ChromaRead {
                 stop,
                 chroma: VvcAlfChroma {

@@ -1,8 +1,7 @@
 -- `read_alf`: the four flags, or the first alone, and what they announce.
 use borrow.Author.Needs.{needs}
-use mathlib.Core.Path.{_≡_, refl, sym, ap, _∙_}
-use mathlib.Core.Bool.{false}
-use Prim.Native.Nat.{ℕ, _+_}
+use mathlib.Core.Path.{sym, _∙_}
+use Prim.Native.Nat.{_+_}
 use native.Mathlib.Omega.{arith}
 use denote.Ref.{now}
 use Rattle.aps.specs.Reading.{outcomeStop}
@@ -10,10 +9,6 @@ use Rattle.aps.proofs.AlfSteps.{alf-without, alf-with}
 use Rattle.aps.proofs.StopLaws.{ends-more}
 use Rattle.aps.proofs.alf.read_alf.Statement.{statement}
 use Rattle.aps.proofs.alf.read_alf.Tie as tie
-use Rattle.aps.proofs.alf.read_alf.Reads as reads
-use Rattle.aps.proofs.alf.read_alf.Lts as lts
-use Rattle.aps.proofs.alf.read_alf_filters.Reads as read-alf-filters-reads
-use Rattle.aps.proofs.fields.read_flag.Reads as read-flag-reads
 
 read-flag-requires : tie.Need-read-flag-requires
 read-flag-requires c κs = search needs
@@ -49,8 +44,7 @@ returns c =
     let b = c .before .before .read-flag3 in
     let k = c .before .before .before .read-flag2 in
     let l = c .before .before .before .before .before .read-flag in
-    let a = c .before .before .before .before .before .before .before .args in
-    (
+    let a = c .before .before .before .before .before .before .before .args in (
       rw (c .before .before .before .before .if1 .taken)
           (d .ensures .0 ∙ sym (alf-with (now (a .bytes)) (a .p) (l .result) (l .ensures) (k .result) (b .result) (r .result) (k .ensures) (b .ensures) (r .ensures))),
       ends-more (outcomeStop (d .result .stop) (d .result .alf)) (a .p + 4 + 24246) (a .p + 30000) (d .ensures .1) (omega arith),
@@ -66,8 +60,7 @@ returns-2 : tie.Need-returns-2
 returns-2 c =
     let d = c .read-alf-filters2 in
     let l = c .before .before .read-flag in
-    let a = c .before .before .before .before .args in
-    (
+    let a = c .before .before .before .before .args in (
       rw (c .before .if1 .left) (d .ensures .0 ∙ sym (alf-without (now (a .bytes)) (a .p) (l .result) (l .ensures))),
       ends-more (outcomeStop (d .result .stop) (d .result .alf)) (a .p + 1 + 24246) (a .p + 30000) (d .ensures .1) (omega arith),
     )

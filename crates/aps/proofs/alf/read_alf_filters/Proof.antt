@@ -1,7 +1,6 @@
 -- `read_alf_filters`: the four parts one after another.
 use borrow.Author.Needs.{needs}
-use mathlib.Core.Path.{_≡_, refl, sym, ap, _∙_}
-use Prim.Native.Nat.{ℕ, _+_}
+use Prim.Native.Nat.{_+_}
 use native.Mathlib.Omega.{arith}
 use denote.Ref.{now}
 use Rattle.aps.specs.Codec.{_▷_}
@@ -10,11 +9,6 @@ use Rattle.aps.specs.declared.fields.Stop.the-variants as Stop
 use Rattle.aps.proofs.StopLaws.{map-stop, stops-more, stops-ends, ▷-after}
 use Rattle.aps.proofs.alf.read_alf_filters.Statement.{statement}
 use Rattle.aps.proofs.alf.read_alf_filters.Tie as tie
-use Rattle.aps.proofs.alf.read_alf_filters.Reads as reads
-use Rattle.aps.proofs.alf.read_alf_filters.Lts as lts
-use Rattle.aps.proofs.alf.read_cc_if.Reads as read-cc-if-reads
-use Rattle.aps.proofs.alf.read_chroma_if.Reads as read-chroma-if-reads
-use Rattle.aps.proofs.alf.read_luma_if.Reads as read-luma-if-reads
 
 read-luma-if-requires : tie.Need-read-luma-if-requires
 read-luma-if-requires c κs = search needs
@@ -38,8 +32,7 @@ read-cc-if-requires-2 c κs =
     let k = c .before .before .before .read-chroma-if in
     let l = c .before .before .before .before .before .read-luma-if in
     let i = c .before .before .before .before .before .before .before in
-    let p = i .args .p in
-    (
+    let p = i .args .p in (
       i .pre .0,
       stops-more (b .result .stop) (p + 20664 + 3232 + 175) 90000 (b .ensures .1 (p + 20664 + 3232) (k .ensures .1 (p + 20664) (l .ensures .1))) (omega (arith, i .pre .1)),
     )
@@ -56,8 +49,7 @@ returns c =
     let both = ▷-after (cc (a .cb)) (λ d. cc (a .cr)) s (k .result .stop) (b .result .stop) (r .result .stop) (b .result .cc) (r .result .cc) (b .ensures .0) (r .ensures .0) in
     let rest = ▷-after (chroma (a .chroma)) (λ d. cc (a .cb) ▷ λ d. cc (a .cr)) s (l .result .stop) (k .result .stop) (r .result .stop) (k .result .chroma) _ (k .ensures .0) both in
     let whole = ▷-after (luma (a .luma)) (λ d. chroma (a .chroma) ▷ λ d. cc (a .cb) ▷ λ d. cc (a .cr)) s (Stop.End (a .p)) (l .result .stop) (r .result .stop) (l .result .luma) _ (l .ensures .0) rest in
-    let ends = r .ensures .1 (a .p + 20664 + 3232 + 175) (b .ensures .1 (a .p + 20664 + 3232) (k .ensures .1 (a .p + 20664) (l .ensures .1))) in
-    (
+    let ends = r .ensures .1 (a .p + 20664 + 3232 + 175) (b .ensures .1 (a .p + 20664 + 3232) (k .ensures .1 (a .p + 20664) (l .ensures .1))) in (
       map-stop (λ x. toAlf (a .luma, (a .chroma, (a .cb, (a .cr, x))))) (r .result .stop) _ whole,
       stops-ends (r .result .stop) (a .p + 24246) _ (stops-more (r .result .stop) (a .p + 20664 + 3232 + 175 + 175) (a .p + 24246) ends (omega arith)),
     )

@@ -1,8 +1,8 @@
 -- `read_cc_if`: a refusal stays, and the record is inferred where the flag is not set.
 use borrow.Author.Needs.{needs}
-use mathlib.Core.Path.{_≡_, refl, sym, ap, _∙_}
-use mathlib.Core.Bool.{Bool, true, false}
-use Prim.Native.Nat.{_+_, _≤_}
+use mathlib.Core.Path.{refl, sym, _∙_}
+use mathlib.Core.Bool.{true}
+use Prim.Native.Nat.{_+_}
 use native.Mathlib.Omega.{arith}
 use denote.Ref.{now}
 use Rattle.aps.specs.AlfSyntax.{ccSyntax, toCc, fromCc, noCc}
@@ -11,10 +11,6 @@ use Rattle.aps.proofs.AlfSteps.{via-absent}
 use Rattle.aps.proofs.StopLaws.{after-end, spans-end, ends-stops, spans-from}
 use Rattle.aps.proofs.alf.read_cc_if.Statement.{statement}
 use Rattle.aps.proofs.alf.read_cc_if.Tie as tie
-use Rattle.aps.proofs.alf.read_cc_if.Reads as reads
-use Rattle.aps.proofs.alf.read_cc_if.Lts as lts
-use Rattle.aps.proofs.alf.no_cc.Reads as no-cc-reads
-use Rattle.aps.proofs.alf.read_cc.Reads as read-cc-reads
 
 enum-known-from : tie.Need-enum-known-from
 enum-known-from c = search needs
@@ -29,8 +25,7 @@ returns : tie.Need-returns
 returns c =
     let d = c .read-cc in
     let f = c .before .before .before in
-    let p = f .from .given .0 .0 in
-    (
+    let p = f .from .given .0 .0 in (
       rw (c .before .if1 .taken) (d .ensures .0) ∙ sym (after-end _ (f .from .given .1)),
       spans-from p (d .result .stop) 175 (f .from .given .1) (ends-stops (d .result .stop) (p + 175) (d .result .cc) (d .ensures .1)),
     )
@@ -49,8 +44,7 @@ unfolding Alf.cc
 returns-2 c =
     let f = c .before .before .before in
     let a = f .before .before .before .args in
-    let p = f .from .given .0 .0 in
-    (
+    let p = f .from .given .0 .0 in (
       rw (c .before .if1 .left, via-absent toCc fromCc (λ d. true) noCc ccSyntax (now (a .bytes)) p, c .no-cc .ensures) refl ∙ sym (after-end _ (f .from .given .1)),
       spans-end p p 175 (f .from .given .1) (omega arith),
     )

@@ -1,8 +1,7 @@
 -- `read_chroma_if`: a refusal stays, and the record is inferred where the flag is not set.
 use borrow.Author.Needs.{needs}
-use mathlib.Core.Path.{_≡_, refl, sym, ap, _∙_}
-use mathlib.Core.Bool.{Bool, true, false}
-use Prim.Native.Nat.{_+_, _≤_}
+use mathlib.Core.Path.{refl, sym, _∙_}
+use Prim.Native.Nat.{_+_}
 use native.Mathlib.Omega.{arith}
 use denote.Ref.{now}
 use lib.Dec.{eqb}
@@ -12,10 +11,6 @@ use Rattle.aps.proofs.AlfSteps.{via-absent}
 use Rattle.aps.proofs.StopLaws.{after-end, spans-end, ends-stops, spans-from}
 use Rattle.aps.proofs.alf.read_chroma_if.Statement.{statement}
 use Rattle.aps.proofs.alf.read_chroma_if.Tie as tie
-use Rattle.aps.proofs.alf.read_chroma_if.Reads as reads
-use Rattle.aps.proofs.alf.read_chroma_if.Lts as lts
-use Rattle.aps.proofs.alf.no_chroma.Reads as no-chroma-reads
-use Rattle.aps.proofs.alf.read_chroma.Reads as read-chroma-reads
 
 enum-known-from : tie.Need-enum-known-from
 enum-known-from c = search needs
@@ -30,8 +25,7 @@ returns : tie.Need-returns
 returns c =
     let d = c .read-chroma in
     let f = c .before .before .before in
-    let p = f .from .given .0 .0 in
-    (
+    let p = f .from .given .0 .0 in (
       rw (c .before .if1 .taken) (d .ensures .0) ∙ sym (after-end _ (f .from .given .1)),
       spans-from p (d .result .stop) 3232 (f .from .given .1) (ends-stops (d .result .stop) (p + 3232) (d .result .chroma) (d .ensures .1)),
     )
@@ -50,8 +44,7 @@ unfolding chroma
 returns-2 c =
     let f = c .before .before .before in
     let a = f .before .before .before .args in
-    let p = f .from .given .0 .0 in
-    (
+    let p = f .from .given .0 .0 in (
       rw (c .before .if1 .left, via-absent toChroma fromChroma (λ d. eqb (length (d .«coeff_abs»)) (length (d .«coeff_sign»))) noChroma chromaSyntax (now (a .bytes)) p, c .no-chroma .ensures) refl ∙ sym (after-end _ (f .from .given .1)),
       spans-end p p 3232 (f .from .given .1) (omega arith),
     )

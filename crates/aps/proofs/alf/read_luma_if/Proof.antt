@@ -1,7 +1,6 @@
 -- `read_luma_if`: the record that is inferred where the flag is not set.
 use borrow.Author.Needs.{needs}
-use mathlib.Core.Path.{_≡_, refl, sym, ap, _∙_}
-use mathlib.Core.Bool.{Bool, true, false}
+use mathlib.Core.Bool.{true}
 use Prim.Native.Nat.{_+_}
 use native.Mathlib.Omega.{arith}
 use denote.Ref.{now}
@@ -10,10 +9,6 @@ use Rattle.aps.proofs.AlfSteps.{via-absent}
 use Rattle.aps.proofs.StopLaws.{ends-stops}
 use Rattle.aps.proofs.alf.read_luma_if.Statement.{statement}
 use Rattle.aps.proofs.alf.read_luma_if.Tie as tie
-use Rattle.aps.proofs.alf.read_luma_if.Reads as reads
-use Rattle.aps.proofs.alf.read_luma_if.Lts as lts
-use Rattle.aps.proofs.alf.no_luma.Reads as no-luma-reads
-use Rattle.aps.proofs.alf.read_luma.Reads as read-luma-reads
 
 read-luma-requires : tie.Need-read-luma-requires
 read-luma-requires c κs = search needs
