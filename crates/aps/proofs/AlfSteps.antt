@@ -15,9 +15,13 @@ use Rattle.bitstream.proofs.FieldLaws.{field-lt}
 use Rattle.aps.specs.Codec.{Codec, u, ue, _▷_, via, judged, Inferred, when, eachFrom, each}
 use Rattle.aps.specs.Elements.{flag, ueTo, signed, noNumber, noSigned, apart}
 use Rattle.aps.specs.AlfSyntax.{ceilLog2, coefficient, lumaCoefficients, lumaClips}
-use Rattle.aps.specs.AlfSyntax.{ccSyntax, ccCoefficients, toCc}
+use Rattle.aps.specs.AlfSyntax.{ccSyntax, ccCoefficients, toCc, alf, alfSyntax, alfFilters, toAlf}
+use Rattle.aps.specs.declared.alf.VvcAlfLuma.{VvcAlfLuma}
+use Rattle.aps.specs.declared.alf.VvcAlfChroma.{VvcAlfChroma}
+use Rattle.aps.specs.declared.alf.VvcAlfCcFilters.{VvcAlfCcFilters}
+use Rattle.aps.specs.declared.alf.VvcAlfData.{VvcAlfData}
 use Rattle.aps.specs.AlfSyntax as Alf
-use Rattle.aps.proofs.Steps.{u-read, flag-read, signed-read, judged-read, when-read, Reading, reading-start, Reading2, reading2-start, apart-read}
+use Rattle.aps.proofs.Steps.{u-read, flag-read, signed-read, judged-read, when-read, Reading, reading-start, Reading2, reading2-start}
 
 pub ueTo-read : (most : ℕ) (s : List ℕ) (p : ℕ) → (ueTo most) .read s p ≡ _then_ (readUe s p) (λ v q. cond (leb v most) (value v q) (refused 2))
 unfolding ueTo judged ue
@@ -63,10 +67,9 @@ sent-test false i n = le-ltb i 0 (omega arith)
 
 module _ (n : ℕ) (s : List ℕ) (p : ℕ) where
   pub luma-coefficients : (apart (each 300 λ i. when (ltb i (12 * (n + 1))) noSigned coefficient)) .read s p ≡ (lumaCoefficients n) .read s p
+  unfolding apart via
   luma-coefficients =
-      let e : (each 300 λ i. when (ltb i (12 * (n + 1))) noSigned coefficient) .read s p ≡ (each 300 λ i. when (leb (i / 12) n) noSigned coefficient) .read s p
-      = each-same (λ i. when (ltb i (12 * (n + 1))) noSigned coefficient) (λ i. when (leb (i / 12) n) noSigned coefficient) s 300 p (λ j h q. rw (row-test j n)) in
-      rw (apart-read, e, ← apart-read)
+      rw (each-same (λ i. when (ltb i (12 * (n + 1))) noSigned coefficient) (λ i. when (leb (i / 12) n) noSigned coefficient) s 300 p (λ j h q. rw (row-test j n)))
 
   pub luma-clips : (clip : Bool) → (each 300 λ i. when (ltb i (cond clip (12 * (n + 1)) 0)) noNumber (u 2)) .read s p ≡ (lumaClips clip n) .read s p
   luma-clips clip =
@@ -134,3 +137,35 @@ module _ (s : List ℕ) (p : ℕ) where
           ≡ _then_ o (λ n q. mapOutcome (λ x. toCc (n, x)) ((ccCoefficients n) .read s q))
       first (value n q) = second n ((ccCoefficients n) .read s q)
       first (refused e) = refl
+
+-- a part that is not signalled
+pub via-absent : {A B : Type 0} (to : A → B) (from : B → A) (test : B → Bool) (d : Inferred A) (c : Codec A) (s : List ℕ) (p : ℕ)
+    → (via to from test (when false d c)) .read s p ≡ value (to (d .default)) p
+unfolding via when
+via-absent to from test d c s p = refl
+
+-- the four flags, or the first alone
+module _ (s : List ℕ) (p : ℕ) (lumaSignal : Bool) (is-luma : lumaSignal ≡ not (eqb (fieldAt s p 1) 0)) where
+  abbrev announced : Bool → Bool → Bool → ℕ → Outcome VvcAlfData
+  announced chromaSignal cbSignal crSignal q =
+      mapOutcome (λ x. toAlf (lumaSignal, (chromaSignal, (cbSignal, (crSignal, x))))) ((alfFilters lumaSignal chromaSignal cbSignal crSignal) .read s q)
+
+  flags-then : (chromaSignal cbSignal crSignal : Bool) (o : Outcome (VvcAlfLuma × (VvcAlfChroma × (VvcAlfCcFilters × VvcAlfCcFilters))))
+      → _then_ (_then_ (_then_ (_then_ (_then_ o (λ x r. value (crSignal, x) r)) (λ x r. value (cbSignal, x) r)) (λ x r. value (chromaSignal, x) r)) (λ x r. value (lumaSignal, x) r)) (λ x r. value (toAlf x) r)
+      ≡ mapOutcome (λ x. toAlf (lumaSignal, (chromaSignal, (cbSignal, (crSignal, x))))) o
+  flags-then chromaSignal cbSignal crSignal (value x q) = refl
+  flags-then chromaSignal cbSignal crSignal (refused e) = refl
+
+  pub alf-without : (alf false) .read s p ≡ announced false false false (p + 1)
+  unfolding alf via alfSyntax _▷_ when
+  alf-without = rw (flag-read s p, ← is-luma) (flags-then false false false ((alfFilters lumaSignal false false false) .read s (p + 1)))
+
+  pub alf-with : (chromaSignal cbSignal crSignal : Bool) → chromaSignal ≡ not (eqb (fieldAt s (p + 1) 1) 0) → cbSignal ≡ not (eqb (fieldAt s (p + 2) 1) 0)
+      → crSignal ≡ not (eqb (fieldAt s (p + 3) 1) 0) → (alf true) .read s p ≡ announced chromaSignal cbSignal crSignal (p + 4)
+  unfolding alf via alfSyntax _▷_ when
+  alf-with chromaSignal cbSignal crSignal is-chroma is-cb is-cr =
+      let second : p + 1 + 1 ≡ p + 2 = omega arith in
+      let third : p + 2 + 1 ≡ p + 3 = omega arith in
+      let fourth : p + 3 + 1 ≡ p + 4 = omega arith in
+      rw (flag-read s p, ← is-luma, flag-read s (p + 1), ← is-chroma, second, flag-read s (p + 2), ← is-cb, third, flag-read s (p + 3), ← is-cr, fourth)
+      (flags-then chromaSignal cbSignal crSignal ((alfFilters lumaSignal chromaSignal cbSignal crSignal) .read s (p + 4)))

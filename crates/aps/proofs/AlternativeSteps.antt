@@ -18,7 +18,7 @@ use Rattle.aps.specs.Reading.{outcomeStop}
 use Rattle.aps.specs.Stops.{after}
 use Rattle.aps.specs.declared.fields.Stop.{Stop}
 use Rattle.aps.specs.declared.fields.Stop.the-variants as Stop
-use Rattle.aps.proofs.PairLaws.{zipped-there, length-firsts, length-seconds, firsts-zipped, seconds-zipped}
+use Rattle.aps.proofs.PairLaws.{zipped-there, length-firsts, firsts-zipped, seconds-zipped}
 use Rattle.aps.proofs.Steps.{Reading, reading-start, reading-more, reading-done, reading-refused, zipped-set, apart-read}
 use Rattle.aps.proofs.AlfSteps.{each-same, sent-test}
 use Rattle.aps.proofs.StopLaws.{after-same, map-stop, ▷-after}
@@ -107,12 +107,12 @@ module _ (clip : Bool) (n : ℕ) (s : List ℕ) (p : ℕ) where
           → Rows clip n s p (row + 1) abs′ sign′ clips′ r
       rows-more abs′ sign′ clips′ r l e f g i =
           rw (f, g, i) (
-            record {
-              size-abs = length-sets abs (6 * row) x ∙ R .size-abs;
-              size-sign = length-sets sign (6 * row) y ∙ R .size-sign;
-              size-clips = length-sets clips (6 * row) z ∙ R .size-clips;
-              read = rw stored at (reading-more (alternative clip n) 8 blank s p row _ q (R .read) (zipped x y, z) r h (alternative-sent clip n row s q l ∙ sym e));
-            }
+          record {
+            size-abs = length-sets abs (6 * row) x ∙ R .size-abs;
+            size-sign = length-sets sign (6 * row) y ∙ R .size-sign;
+            size-clips = length-sets clips (6 * row) z ∙ R .size-clips;
+            read = rw stored at (reading-more (alternative clip n) 8 blank s p row _ q (R .read) (zipped x y, z) r h (alternative-sent clip n row s q l ∙ sym e));
+          }
           )
 
     pub rows-refused : (e : ℕ) → row < 8 → row ≤ n → refused e ≡ (alternative clip 0 0) .read s q → refused e ≡ mapOutcome chromaArrays ((alternatives clip n) .read s p)

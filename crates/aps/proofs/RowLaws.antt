@@ -6,7 +6,7 @@ use native.Mathlib.Nat.{add-zero, zero-add, add-suc, suc-add, mul-zero, mul-suc,
 use native.Mathlib.Numerals.{add-one}
 use native.Mathlib.Omega.{arith}
 use lib.ListN.{length, getD, take, drop, set, length-set, length-drop, take-append-drop}
-use lib.Seq.{sets, sets-eq, length-sets, take-suc, take-set-le, drop-set-add, length-take-le, take-all, take-at, drop-at}
+use lib.Seq.{sets, sets-eq, take-suc, take-set-le, drop-set-add, length-take-le, take-all, take-at, drop-at}
 use Rattle.aps.specs.Elements.{zipped, joined, rowsOf}
 use Rattle.aps.proofs.Steps.{zipped-set}
 

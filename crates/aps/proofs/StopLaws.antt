@@ -1,6 +1,5 @@
 -- Runs of fields one after another.
-use mathlib.Core.Path.{_≡_, refl, sym, ap, _∙_}
-use mathlib.Core.Bool.{Bool}
+use mathlib.Core.Path.{_≡_, refl, ap, _∙_}
 use mathlib.Core.List.{List}
 use Prim.Native.Nat.{ℕ, _+_, _≤_}
 use native.Mathlib.Omega.{arith}
@@ -26,6 +25,10 @@ map-stop f (Stop.Refused n) a e = rw (← e)
 
 pub spans-end : {from : Stop} (p q n : ℕ) → from ≡ Stop.End p → q ≤ p + n → Spans from (Stop.End q) n
 spans-end p q n e h m k = let l : p ≤ m = rw e at k in omega arith
+
+pub spans-from : {from : Stop} (p : ℕ) (to : Stop) (n : ℕ) → from ≡ Stop.End p → StopsBy to (p + n) → Spans from to n
+spans-from p (Stop.End q) n e h = spans-end p q n e h
+spans-from p (Stop.Refused m) n e h = λ m k. tt
 
 pub ends-more : {A : Type 0} (o : Outcome A) (m n : ℕ) → EndsBy o m → m ≤ n → EndsBy o n
 ends-more (value a q) m n h l = omega arith

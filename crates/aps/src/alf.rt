@@ -404,7 +404,15 @@ pub(crate) fn read_chroma(bytes: &[u8], p: usize) -> ChromaRead
             let mut abs = [0u32; 48];
             let mut sign = [false; 48];
             let mut clips = [0u8; 48];
-            let stop = read_alternatives(bytes, r.bit_pos, clip, n, &mut abs, &mut sign, &mut clips);
+            let stop = read_alternatives(
+                bytes,
+                r.bit_pos,
+                clip,
+                n,
+                &mut abs,
+                &mut sign,
+                &mut clips,
+            );
             ChromaRead {
                 stop,
                 chroma: VvcAlfChroma {
@@ -485,12 +493,109 @@ pub(crate) fn read_cc(bytes: &[u8], p: usize) -> CcRead
     }
 }
 
+// The luma filters if they are signalled.
+fn read_luma_if(bytes: &[u8], p: usize, signal: bool) -> LumaRead
+    requires { ⌜ (length (now bytes) ≤ 65536) × (p ≤ 90000) ⌝ }
+    ensures { λ r. ⌜ (outcomeStop (r .stop) (r .luma) ≡ (luma signal) .read (now (bytes .entry)) p) × StopsBy (r .stop) (p + 20664) ⌝ }
+{
+    if signal {
+        return read_luma(bytes, p);
+    }
+    LumaRead {
+        stop: Stop::End(p),
+        luma: no_luma(),
+    }
+}
+
+// The chroma filters if they are signalled.
+fn read_chroma_if(bytes: &[u8], from: Stop, signal: bool) -> ChromaRead
+    requires { ⌜ (length (now bytes) ≤ 65536) × StopsBy from 90000 ⌝ }
+    ensures { λ r. ⌜ (outcomeStop (r .stop) (r .chroma) ≡ after from λ p. (chroma signal) .read (now (bytes .entry)) p) × Spans from (r .stop) 3232 ⌝ }
+{
+    match from {
+        Stop::End(p) => {
+            if signal {
+                return read_chroma(bytes, p);
+            }
+            ChromaRead {
+                stop: Stop::End(p),
+                chroma: no_chroma(),
+            }
+        }
+        Stop::Refused(why) => ChromaRead {
+            stop: Stop::Refused(why),
+            chroma: no_chroma(),
+        },
+    }
+}
+
+// The filters of Cb or Cr if they are signalled.
+fn read_cc_if(bytes: &[u8], from: Stop, signal: bool) -> CcRead
+    requires { ⌜ (length (now bytes) ≤ 65536) × StopsBy from 90000 ⌝ }
+    ensures { λ r. ⌜ (outcomeStop (r .stop) (r .cc) ≡ after from λ p. (cc signal) .read (now (bytes .entry)) p) × Spans from (r .stop) 175 ⌝ }
+{
+    match from {
+        Stop::End(p) => {
+            if signal {
+                return read_cc(bytes, p);
+            }
+            CcRead {
+                stop: Stop::End(p),
+                cc: no_cc(),
+            }
+        }
+        Stop::Refused(why) => CcRead {
+            stop: Stop::Refused(why),
+            cc: no_cc(),
+        },
+    }
+}
+
+// What the four flags announce.
+fn read_alf_filters(bytes: &[u8], p: usize, luma: bool, chroma: bool, cb: bool, cr: bool) -> AlfRead
+    requires { ⌜ (length (now bytes) ≤ 65536) × (p ≤ 1000) ⌝ }
+    ensures { λ r. ⌜ (outcomeStop (r .stop) (r .alf)
+        ≡ mapOutcome (λ x. toAlf (luma, (chroma, (cb, (cr, x))))) ((alfFilters luma chroma cb cr) .read (now (bytes .entry)) p))
+        × EndsBy (outcomeStop (r .stop) (r .alf)) (p + 24246) ⌝ }
+{
+    let l = read_luma_if(bytes, p, luma);
+    let luma_stop = l.stop;
+    let luma_filters = l.luma;
+    let c = read_chroma_if(bytes, luma_stop, chroma);
+    let chroma_stop = c.stop;
+    let chroma_filters = c.chroma;
+    let b = read_cc_if(bytes, chroma_stop, cb);
+    let cb_stop = b.stop;
+    let cb_filters = b.cc;
+    let r = read_cc_if(bytes, cb_stop, cr);
+    let stop = r.stop;
+    let cr_filters = r.cc;
+    AlfRead {
+        stop,
+        alf: VvcAlfData {
+            alf_luma_filter_signal_flag: luma,
+            alf_chroma_filter_signal_flag: chroma,
+            alf_cc_cb_filter_signal_flag: cb,
+            alf_cc_cr_filter_signal_flag: cr,
+            luma: luma_filters,
+            chroma: chroma_filters,
+            cc_cb: cb_filters,
+            cc_cr: cr_filters,
+        },
+    }
+}
+
+// alf_data().
 pub(crate) fn read_alf(bytes: &[u8], p: usize, chroma: bool) -> AlfRead
     requires { ⌜ (length (now bytes) ≤ 65536) × (p ≤ 100) ⌝ }
     ensures { λ r. ⌜ (outcomeStop (r .stop) (r .alf) ≡ (alf chroma) .read (now (bytes .entry)) p) × EndsBy (outcomeStop (r .stop) (r .alf)) (p + 30000) ⌝ }
 {
-    AlfRead {
-        stop: Stop::Refused(Refusal::InvalidData),
-        alf: zero_alf(),
+    let luma = read_flag(bytes, p);
+    if chroma {
+        let filters = read_flag(bytes, p + 1);
+        let cb = read_flag(bytes, p + 2);
+        let cr = read_flag(bytes, p + 3);
+        return read_alf_filters(bytes, p + 4, luma, filters, cb, cr);
     }
+    read_alf_filters(bytes, p + 1, luma, false, false, false)
 }

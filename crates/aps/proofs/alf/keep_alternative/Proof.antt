@@ -1,16 +1,14 @@
 -- `keep_alternative`: the loop has stored the first j entries of each row.
 use borrow.Author.Needs.{needs}
-use mathlib.Core.Path.{_≡_, refl, sym, ap, _∙_}
+use mathlib.Core.Path.{_≡_, refl}
 use mathlib.Core.Bool.{false}
-use Prim.Native.Nat.{ℕ, _+_, _-_, _*_, _≤_, _<_}
+use Prim.Native.Nat.{_-_, _*_, _≤_}
 use native.Mathlib.Omega.{arith}
 use lib.ListN.{length, take}
-use lib.Seq.{sets, length-sets}
+use lib.Seq.{sets}
 use Rattle.aps.proofs.RowLaws.{sets-more, sets-all}
 use Rattle.aps.proofs.alf.keep_alternative.Statement.{statement}
 use Rattle.aps.proofs.alf.keep_alternative.Tie as tie
-use Rattle.aps.proofs.alf.keep_alternative.Reads as reads
-use Rattle.aps.proofs.alf.keep_alternative.Lts as lts
 
 abbrev Inv-loop : tie.InvT-loop
 Inv-loop row abs₀ sign₀ clip₀ from j₀ abs sign clip j =
@@ -65,8 +63,7 @@ loop-again c =
     let o = l .loop in
     let n : length (a .t1 .abs) ≡ 6 = search needs in
     let m : length (a .t1 .sign) ≡ 6 = search needs in
-    let k : length (a .t1 .clip) ≡ 6 = search needs in
-    (
+    let k : length (a .t1 .clip) ≡ 6 = search needs in (
       omega arith,
       sets-more (a .abs .now) (o .abs) (6 * a .row) (a .t1 .abs) (o .j) 0 (omega arith) (o .inv .1),
       sets-more (a .sign .now) (o .sign) (6 * a .row) (a .t1 .sign) (o .j) false (omega arith) (o .inv .2),
@@ -80,8 +77,7 @@ returns c =
     let o = l .loop in
     let n : length (a .t1 .abs) ≡ 6 = search needs in
     let m : length (a .t1 .sign) ≡ 6 = search needs in
-    let k : length (a .t1 .clip) ≡ 6 = search needs in
-    (
+    let k : length (a .t1 .clip) ≡ 6 = search needs in (
       sets-all (a .abs .now) (o .abs) (6 * a .row) (a .t1 .abs) (o .j) (omega arith) (o .inv .1),
       sets-all (a .sign .now) (o .sign) (6 * a .row) (a .t1 .sign) (o .j) (omega arith) (o .inv .2),
       sets-all (a .clip .now) (o .clip) (6 * a .row) (a .t1 .clip) (o .j) (omega arith) (o .inv .3),

@@ -1,20 +1,13 @@
 -- `read_alternative`: six coefficients, and at once six clips.
 use borrow.Author.Needs.{needs}
-use mathlib.Core.Path.{_≡_, refl, sym, ap, _∙_}
-use mathlib.Core.Bool.{Bool}
-use mathlib.Core.List.{List}
-use Prim.Native.Nat.{ℕ, _+_, _*_}
+use mathlib.Core.Path.{refl}
+use Prim.Native.Nat.{_+_, _*_}
 use native.Mathlib.Omega.{arith}
 use denote.Ref.{now}
 use Rattle.aps.proofs.AlternativeSteps.{alternative-from}
 use Rattle.aps.proofs.StopLaws.{stops-more}
 use Rattle.aps.proofs.alf.read_alternative.Statement.{statement}
 use Rattle.aps.proofs.alf.read_alternative.Tie as tie
-use Rattle.aps.proofs.alf.read_alternative.Reads as reads
-use Rattle.aps.proofs.alf.read_alternative.Lts as lts
-use Rattle.aps.proofs.alf.clips_sent.Reads as clips-sent-reads
-use Rattle.aps.proofs.alf.read_clips.Reads as read-clips-reads
-use Rattle.aps.proofs.alf.read_coefficients.Reads as read-coefficients-reads
 
 slice-aggregate-read-coefficients : tie.Need-slice-aggregate-read-coefficients
 slice-aggregate-read-coefficients c = search needs
@@ -43,8 +36,7 @@ returns c =
     let w = c .before .before .before .clips-sent in
     let k = c .before .before .before .before .before .before in
     let e = k .read-coefficients in
-    let a = k .before .before .before .before .args in
-    (
+    let a = k .before .before .before .before .args in (
       alternative-from (now (a .bytes)) (a .p) (a .clip) (e .result) (d .result) (e .last .1 .1 .1 .0) (e .last .1 .1 .1 .1 .0) (d .last .1 .1 .1 .0) (w .result) (w .ensures .0) (e .ensures .0) (d .ensures .0),
       stops-more (d .result) (a .p + 64 * 6 + 2 * w .result) (a .p + 396) (d .ensures .1 (a .p + 64 * 6) (e .ensures .1 (a .p) (omega arith))) (omega arith),
     )

@@ -3,7 +3,7 @@ use borrow.Author.Needs.{needs}
 use mathlib.Core.Path.{_≡_, sym, ap, _∙_}
 use mathlib.Core.Bool.{Bool}
 use mathlib.Core.List.{List}
-use Prim.Native.Nat.{ℕ, _+_, _-_, _*_, _≤_, _<_}
+use Prim.Native.Nat.{ℕ, _+_, _-_, _*_, _≤_}
 use native.Mathlib.Omega.{arith}
 use denote.Ref.{now}
 use lib.ListN.{length}
@@ -14,10 +14,6 @@ use Rattle.aps.specs.declared.fields.Stop.{Stop}
 use Rattle.aps.proofs.AlternativeSteps.{Rows, rows-from, rows-more, rows-refused, rows-done}
 use Rattle.aps.proofs.alf.read_alternatives.Statement.{statement}
 use Rattle.aps.proofs.alf.read_alternatives.Tie as tie
-use Rattle.aps.proofs.alf.read_alternatives.Reads as reads
-use Rattle.aps.proofs.alf.read_alternatives.Lts as lts
-use Rattle.aps.proofs.alf.keep_alternative.Reads as keep-alternative-reads
-use Rattle.aps.proofs.alf.read_alternative.Reads as read-alternative-reads
 
 abbrev Inv-loop : tie.InvT-loop
 Inv-loop bytes p clip count-minus1 abs₀ sign₀ clips₀ at₀ row₀ abs sign clips at row =
@@ -49,8 +45,7 @@ returns c =
     let k = c .before .before .before .read-alternative in
     let g = c .before .stop2 .given in
     let x : List (ℕ × Bool) × List ℕ = (zipped (k .result .abs) (k .result .sign), k .result .clip) in
-    let e = sym (ap (λ (t : Stop). outcomeStop t x) (g .1)) ∙ k .ensures .0 in
-    (
+    let e = sym (ap (λ (t : Stop). outcomeStop t x) (g .1)) ∙ k .ensures .0 in (
       rows-refused (a .clip) (a .count-minus1) (now (a .bytes)) (a .p) (o .row) (o .abs) (o .sign) (o .clips) (o .at) (o .inv .2) (number (g .0 .0)) (omega arith) (omega arith) e,
       tt,
     )
@@ -80,8 +75,7 @@ loop-again c =
     let most : a .count-minus1 ≤ 7 = l .before .before .pre .2 in
     let near : o .at ≤ a .p + 396 * o .row = o .inv .1 in
     let x : List (ℕ × Bool) × List ℕ = (zipped (r .abs) (r .sign), r .clip) in
-    let e = sym (ap (λ (t : Stop). outcomeStop t x) (g .1)) ∙ k .ensures .0 in
-    (
+    let e = sym (ap (λ (t : Stop). outcomeStop t x) (g .1)) ∙ k .ensures .0 in (
       omega arith,
       omega (arith, rw (g .1) at (k .ensures .1)),
       rows-more (a .clip) (a .count-minus1) (now (a .bytes)) (a .p) (o .row) (o .abs) (o .sign) (o .clips) (o .at) (o .inv .2)

@@ -1,6 +1,6 @@
 -- `read_cc`: the count is read and judged before the coefficients.
 use borrow.Author.Needs.{needs}
-use mathlib.Core.Path.{_≡_, refl, sym, ap, _∙_}
+use mathlib.Core.Path.{refl, sym, ap, _∙_}
 use mathlib.Core.Bool.{Bool}
 use mathlib.Core.List.{List}
 use Prim.Native.Nat.{ℕ, _+_}
@@ -12,11 +12,6 @@ use Rattle.aps.proofs.AlfSteps.{ueTo-most, cc-read}
 use Rattle.aps.proofs.StopLaws.{map-stop, stops-more, stops-ends}
 use Rattle.aps.proofs.alf.read_cc.Statement.{statement}
 use Rattle.aps.proofs.alf.read_cc.Tie as tie
-use Rattle.aps.proofs.alf.read_cc.Reads as reads
-use Rattle.aps.proofs.alf.read_cc.Lts as lts
-use Rattle.aps.proofs.alf.no_cc.Reads as no-cc-reads
-use Rattle.aps.proofs.alf.read_cc_coefficients.Reads as read-cc-coefficients-reads
-use Rattle.aps.proofs.alf.read_ue_to.Reads as read-ue-to-reads
 
 read-ue-to-requires : tie.Need-read-ue-to-requires
 read-ue-to-requires c κs = search needs
@@ -28,8 +23,7 @@ read-cc-coefficients-requires : tie.Need-read-cc-coefficients-requires
 read-cc-coefficients-requires c κs =
     let g = c .before .before .before .count .given in
     let k = c .before .before .before .before .before in
-    let a = k .before .before .args in
-    (
+    let a = k .before .before .args in (
       omega arith,
       omega (arith, rw (g .1) at (k .read-ue-to .ensures .1)),
       ueTo-most 3 (now (a .bytes)) (a .p) (g .0 .0) (g .0 .1 .0 .«bit_pos») (sym (ap outcomeU (g .1)) ∙ k .read-ue-to .ensures .0),
@@ -52,8 +46,7 @@ returns c =
     let q = g .0 .1 .0 .«bit_pos» in
     let p = k .before .before .args .p in
     let count = sym (k .read-ue-to .ensures .0) ∙ ap outcomeU (g .1) in
-    let coeff : List ℕ × List Bool = (d .last .1 .1 .1 .0, d .last .1 .1 .1 .1 .0) in
-    (
+    let coeff : List ℕ × List Bool = (d .last .1 .1 .1 .0, d .last .1 .1 .1 .1 .0) in (
       map-stop (λ x. toCc (g .0 .0, x)) (d .result) coeff (d .ensures .0) ∙ sym (rw (cc-read, count)),
       stops-ends (d .result) (p + 175) _ (stops-more (d .result) (q + 112) (p + 175) (d .ensures .1) (omega (arith, rw (g .1) at (k .read-ue-to .ensures .1)))),
     )

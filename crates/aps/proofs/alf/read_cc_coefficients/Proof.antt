@@ -1,8 +1,7 @@
 -- `read_cc_coefficients`: the loop has read the first i coefficients.
 use mathlib.Core.Path.{_≡_, sym, ap, _∙_}
 use mathlib.Core.Bool.{Bool, false}
-use mathlib.Core.List.{List}
-use Prim.Native.Nat.{ℕ, _+_, _-_, _*_, _/_, _≤_, _<_}
+use Prim.Native.Nat.{ℕ, _+_, _-_, _*_, _/_, _≤_}
 use native.Mathlib.Omega.{arith}
 use borrow.Author.Needs.{needs}
 use borrow.Author.Tests.{le-leb, lt-leb}
@@ -16,9 +15,6 @@ use Rattle.aps.proofs.Steps.{when-read, Reading2, reading2-more, readin
 use Rattle.aps.proofs.AlfSteps.{reading2-from, signed-lt}
 use Rattle.aps.proofs.alf.read_cc_coefficients.Statement.{statement}
 use Rattle.aps.proofs.alf.read_cc_coefficients.Tie as tie
-use Rattle.aps.proofs.alf.read_cc_coefficients.Reads as reads
-use Rattle.aps.proofs.alf.read_cc_coefficients.Lts as lts
-use Rattle.aps.proofs.fields.read_signed.Reads as read-signed-reads
 
 abbrev entry : ℕ → ℕ → Codec (ℕ × Bool)
 entry count-1 i = when (leb (i / 7) count-1) noSigned (signed (u 3))
@@ -88,8 +84,7 @@ loop-again c =
     let k = c .before .before .before .read-signed in
     let g = c .before .field .given in
     let e : (entry (a .count-minus1) (o .i)) .read (now (a .bytes)) (o .at) ≡ value (g .0 .0, g .0 .1 .0) (g .0 .1 .1 .0)
-    = rw (when-read, le-leb (o .i / 7) (a .count-minus1) (omega arith)) (sym (k .ensures .0) ∙ ap outcomeSigned (g .1)) in
-    (
+    = rw (when-read, le-leb (o .i / 7) (a .count-minus1) (omega arith)) (sym (k .ensures .0) ∙ ap outcomeSigned (g .1)) in (
       omega arith,
       omega (arith, rw (g .1) at (k .ensures .1)),
       reading2-more (entry (a .count-minus1)) 28 0 false (now (a .bytes)) (a .p) (o .i) (o .abs) (o .sign) (o .at) (o .inv .2)
@@ -100,10 +95,9 @@ returns-2 : tie.Need-returns-2 Inv-loop μ-loop
 returns-2 c =
     let l = c .before in
     let a = l .before .before .args in
-    let o = l .loop in
-    (
+    let o = l .loop in (
       sym (reading2-done (entry (a .count-minus1)) 28 0 false (now (a .bytes)) (a .p) (o .i) (o .abs) (o .sign) (o .at) (o .inv .2) (omega arith)
-      (λ j h b. rw (when-read, lt-leb (j / 7) (a .count-minus1) (omega arith)))),
+          (λ j h b. rw (when-read, lt-leb (j / 7) (a .count-minus1) (omega arith)))),
       omega arith,
     )
 

@@ -1,6 +1,6 @@
 -- `read_clips`: the loop has read the first i clips.
-use mathlib.Core.Path.{_≡_, sym, ap, _∙_}
-use Prim.Native.Nat.{ℕ, _+_, _-_, _*_, _≤_, _<_}
+use mathlib.Core.Path.{_≡_, sym, _∙_}
+use Prim.Native.Nat.{ℕ, _+_, _-_, _*_, _≤_}
 use native.Mathlib.Omega.{arith}
 use borrow.Author.Needs.{needs}
 use borrow.Author.Tests.{lt-ltb, le-ltb}
@@ -16,9 +16,6 @@ use Rattle.aps.proofs.AlfSteps.{reading-from}
 use Rattle.aps.proofs.StopLaws.{after-end, spans-end}
 use Rattle.aps.proofs.alf.read_clips.Statement.{statement}
 use Rattle.aps.proofs.alf.read_clips.Tie as tie
-use Rattle.aps.proofs.alf.read_clips.Reads as reads
-use Rattle.aps.proofs.alf.read_clips.Lts as lts
-use Rattle.aps.proofs.fields.read_u.Reads as read-u-reads
 
 abbrev entry : ℕ → ℕ → Codec ℕ
 entry n i = when (ltb i n) noNumber (u 2)
@@ -105,11 +102,10 @@ returns-2 c =
     let a = f .before .before .before .before .args in
     let p = f .from .given .0 .0 in
     let o = l .loop in
-    let i : o .i ≡ a .n = omega arith in
-    (
+    let i : o .i ≡ a .n = omega arith in (
       sym (after-end _ (f .from .given .1)
-      ∙ rw i at (reading-done (entry (a .n)) (length (a .clip .now)) 0 (now (a .bytes)) p (o .i) (o .clip) (p + 2 * o .i) (o .inv .1) (omega arith)
-      (λ j h b. rw (when-read, le-ltb j (a .n) (omega arith))))),
+          ∙ rw i at (reading-done (entry (a .n)) (length (a .clip .now)) 0 (now (a .bytes)) p (o .i) (o .clip) (p + 2 * o .i) (o .inv .1) (omega arith)
+          (λ j h b. rw (when-read, le-ltb j (a .n) (omega arith))))),
       spans-end p (p + 2 * a .n) (2 * a .n) (f .from .given .1) (omega arith),
     )
 

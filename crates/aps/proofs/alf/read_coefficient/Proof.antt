@@ -1,17 +1,13 @@
 -- `read_coefficient`: a sign is read after a magnitude that is taken and is not 0.
 use borrow.Author.Needs.{needs}
-use borrow.Author.Tests.{eq-eqb, ne-eqb}
-use mathlib.Core.Path.{_≡_, sym, ap, _∙_}
+use borrow.Author.Tests.{ne-eqb}
+use mathlib.Core.Path.{sym, ap, _∙_}
 use native.Mathlib.Omega.{arith}
 use Rattle.bitstream.specs.Reading.{outcomeU}
 use Rattle.aps.specs.AlfSyntax.{coefficient}
 use Rattle.aps.proofs.Steps.{signed-read, flag-read}
 use Rattle.aps.proofs.alf.read_coefficient.Statement.{statement}
 use Rattle.aps.proofs.alf.read_coefficient.Tie as tie
-use Rattle.aps.proofs.alf.read_coefficient.Reads as reads
-use Rattle.aps.proofs.alf.read_coefficient.Lts as lts
-use Rattle.aps.proofs.alf.read_ue_to.Reads as read-ue-to-reads
-use Rattle.aps.proofs.fields.read_flag.Reads as read-flag-reads
 
 read-ue-to-requires : tie.Need-read-ue-to-requires
 read-ue-to-requires c κs = search needs

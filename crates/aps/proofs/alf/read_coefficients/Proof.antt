@@ -2,7 +2,7 @@
 use mathlib.Core.Path.{_≡_, sym, ap, _∙_}
 use mathlib.Core.Bool.{Bool, false}
 use mathlib.Core.List.{List}
-use Prim.Native.Nat.{ℕ, _+_, _-_, _*_, _≤_, _<_}
+use Prim.Native.Nat.{ℕ, _+_, _-_, _*_, _≤_}
 use native.Mathlib.Omega.{arith}
 use borrow.Author.Needs.{needs}
 use borrow.Author.Tests.{lt-ltb, le-ltb}
@@ -10,8 +10,8 @@ use denote.Ref.{now}
 use lib.Dec.{ltb}
 use lib.ListN.{length, replicate, length-replicate}
 use Rattle.bitstream.specs.Outcome.{value, refused, number}
-use Rattle.aps.specs.Codec.{Codec, when, each}
-use Rattle.aps.specs.Elements.{noSigned, apart}
+use Rattle.aps.specs.Codec.{Codec, when}
+use Rattle.aps.specs.Elements.{noSigned}
 use Rattle.aps.specs.AlfSyntax.{coefficient}
 use Rattle.aps.specs.Reading.{outcomeSigned}
 use Rattle.aps.proofs.Steps.{when-read, Reading2, reading2-more, reading2-done, reading2-refused}
@@ -19,9 +19,6 @@ use Rattle.aps.proofs.AlfSteps.{reading2-from}
 use Rattle.aps.proofs.StopLaws.{after-end, spans-end}
 use Rattle.aps.proofs.alf.read_coefficients.Statement.{statement}
 use Rattle.aps.proofs.alf.read_coefficients.Tie as tie
-use Rattle.aps.proofs.alf.read_coefficients.Reads as reads
-use Rattle.aps.proofs.alf.read_coefficients.Lts as lts
-use Rattle.aps.proofs.alf.read_coefficient.Reads as read-coefficient-reads
 
 abbrev entry : ℕ → ℕ → Codec (ℕ × Bool)
 entry n i = when (ltb i n) noSigned coefficient
@@ -90,10 +87,9 @@ returns-2 c =
     let k = c .before .before .before .read-coefficient in
     let g = c .before .field2 .given in
     let e : (entry (a .n) (o .i)) .read (now (a .bytes)) (o .at) ≡ refused (number (g .0 .0))
-    = rw (when-read, lt-ltb (o .i) (a .n) (omega arith)) (sym (k .ensures .0) ∙ ap outcomeSigned (g .1)) in
-    (
+    = rw (when-read, lt-ltb (o .i) (a .n) (omega arith)) (sym (k .ensures .0) ∙ ap outcomeSigned (g .1)) in (
       sym (after-end _ (f .from .given .1)
-      ∙ reading2-refused (entry (a .n)) (length (a .abs .now)) 0 false (now (a .bytes)) (f .from .given .0 .0) (o .i) (o .abs) (o .sign) (o .at) (o .inv .2) (number (g .0 .0)) (omega arith) e),
+          ∙ reading2-refused (entry (a .n)) (length (a .abs .now)) 0 false (now (a .bytes)) (f .from .given .0 .0) (o .i) (o .abs) (o .sign) (o .at) (o .inv .2) (number (g .0 .0)) (omega arith) e),
       λ m h. tt,
     )
 
@@ -112,8 +108,7 @@ loop-again c =
     let k = c .before .before .before .read-coefficient in
     let g = c .before .field .given in
     let e : (entry (a .n) (o .i)) .read (now (a .bytes)) (o .at) ≡ value (g .0 .0, g .0 .1 .0) (g .0 .1 .1 .0)
-    = rw (when-read, lt-ltb (o .i) (a .n) (omega arith)) (sym (k .ensures .0) ∙ ap outcomeSigned (g .1)) in
-    (
+    = rw (when-read, lt-ltb (o .i) (a .n) (omega arith)) (sym (k .ensures .0) ∙ ap outcomeSigned (g .1)) in (
       omega arith,
       omega (arith, rw (g .1) at (k .ensures .1)),
       reading2-more (entry (a .n)) (length (a .abs .now)) 0 false (now (a .bytes)) (f .from .given .0 .0) (o .i) (o .abs) (o .sign) (o .at) (o .inv .2)
@@ -133,11 +128,10 @@ returns-3 c =
     let l = c .before in
     let f = l .before .before in
     let a = f .before .before .before .before .before .args in
-    let o = l .loop in
-    (
+    let o = l .loop in (
       sym (after-end _ (f .from .given .1)
-      ∙ reading2-done (entry (a .n)) (length (a .abs .now)) 0 false (now (a .bytes)) (f .from .given .0 .0) (o .i) (o .abs) (o .sign) (o .at) (o .inv .2) (omega arith)
-      (λ j h b. rw (when-read, le-ltb j (a .n) (omega arith)))),
+          ∙ reading2-done (entry (a .n)) (length (a .abs .now)) 0 false (now (a .bytes)) (f .from .given .0 .0) (o .i) (o .abs) (o .sign) (o .at) (o .inv .2) (omega arith)
+          (λ j h b. rw (when-read, le-ltb j (a .n) (omega arith)))),
       spans-end (f .from .given .0 .0) (o .at) (64 * a .n) (f .from .given .1) (omega arith),
     )
 

@@ -1,12 +1,11 @@
 -- `read_indexes`: the loop has read the first i indexes.
-use mathlib.Core.Path.{_≡_, sym}
-use Prim.Native.Nat.{ℕ, _+_, _-_, _*_, _≤_, _<_}
+use mathlib.Core.Path.{sym}
+use Prim.Native.Nat.{ℕ, _+_, _-_, _*_, _≤_}
 use native.Mathlib.Omega.{arith}
 use borrow.Author.Needs.{needs}
 use borrow.Author.Tests.{le-ltb}
 use denote.Ref.{now}
 use lib.Dec.{leb, ltb}
-use Rattle.bitstream.specs.Outcome.{value, refused}
 use Rattle.aps.specs.Codec.{Codec, u, judged, when}
 use Rattle.aps.specs.Elements.{noNumber}
 use Rattle.aps.specs.AlfSyntax.{ceilLog2}
@@ -14,10 +13,6 @@ use Rattle.aps.proofs.Steps.{when-read, Reading, reading-more, reading-
 use Rattle.aps.proofs.AlfSteps.{reading-from, index-taken, index-refused}
 use Rattle.aps.proofs.alf.read_indexes.Statement.{statement}
 use Rattle.aps.proofs.alf.read_indexes.Tie as tie
-use Rattle.aps.proofs.alf.read_indexes.Reads as reads
-use Rattle.aps.proofs.alf.read_indexes.Lts as lts
-use Rattle.aps.proofs.alf.ceil_log2.Reads as ceil-log2-reads
-use Rattle.aps.proofs.fields.read_u.Reads as read-u-reads
 
 abbrev index : ℕ → ℕ → Codec ℕ
 index count-1 i = when (ltb 0 count-1) noNumber (judged (λ x. leb x count-1) (u (ceilLog2 (count-1 + 1))))
@@ -33,8 +28,7 @@ returns c =
     let b = c .before .before in
     let a = b .args in
     let s = now (a .bytes) in
-    let n = a .count-minus1 in
-    (
+    let n = a .count-minus1 in (
       sym (reading-done (index n) 25 0 s (a .p) 0 (a .idx .now) (a .p) (reading-from (index n) 25 0 s (a .p) (a .idx .now) (b .pre .3)) (omega arith) (λ j h l. rw (when-read, le-ltb 0 n (omega arith)))),
       omega arith,
     )

@@ -1,8 +1,8 @@
 -- `read_luma`: the flag and the count are read and judged before the filters.
 use borrow.Author.Needs.{needs}
-use mathlib.Core.Path.{_≡_, refl, sym, ap, _∙_}
+use mathlib.Core.Path.{sym, ap, _∙_}
 use mathlib.Core.Bool.{true}
-use Prim.Native.Nat.{ℕ, _+_}
+use Prim.Native.Nat.{_+_}
 use native.Mathlib.Omega.{arith}
 use denote.Ref.{now}
 use Rattle.bitstream.specs.Reading.{outcomeU}
@@ -12,12 +12,6 @@ use Rattle.aps.proofs.AlfSteps.{ueTo-most, head-value, head-refused}
 use Rattle.aps.proofs.StopLaws.{ends-more}
 use Rattle.aps.proofs.alf.read_luma.Statement.{statement}
 use Rattle.aps.proofs.alf.read_luma.Tie as tie
-use Rattle.aps.proofs.alf.read_luma.Reads as reads
-use Rattle.aps.proofs.alf.read_luma.Lts as lts
-use Rattle.aps.proofs.alf.no_luma.Reads as no-luma-reads
-use Rattle.aps.proofs.alf.read_luma_filters.Reads as read-luma-filters-reads
-use Rattle.aps.proofs.alf.read_ue_to.Reads as read-ue-to-reads
-use Rattle.aps.proofs.fields.read_flag.Reads as read-flag-reads
 
 read-flag-requires : tie.Need-read-flag-requires
 read-flag-requires c κs = search needs
@@ -35,8 +29,7 @@ read-luma-filters-requires : tie.Need-read-luma-filters-requires
 read-luma-filters-requires c κs =
     let k = c .before .before .before in
     let g = c .before .count .given in
-    let a = k .before .before .before .args in
-    (
+    let a = k .before .before .before .args in (
       omega arith,
       omega (arith, rw (g .1) at (k .read-ue-to .ensures .1)),
       ueTo-most 24 (now (a .bytes)) (a .p + 1) (g .0 .0) (g .0 .1 .0 .«bit_pos») (sym (ap outcomeU (g .1)) ∙ k .read-ue-to .ensures .0),
@@ -55,8 +48,7 @@ returns c =
     let g = c .before .before .count .given in
     let k = c .before .before .before .before in
     let a = k .before .before .before .args in
-    let count = sym (k .read-ue-to .ensures .0) ∙ ap outcomeU (g .1) in
-    (
+    let count = sym (k .read-ue-to .ensures .0) ∙ ap outcomeU (g .1) in (
       d .ensures .0 ∙ sym (head-value toLuma fromLuma (λ d. true) noLuma 24 lumaFilters (now (a .bytes)) (a .p) (k .before .read-flag .result) (g .0 .0) (g .0 .1 .0 .«bit_pos») (k .before .read-flag .ensures) count),
       ends-more (outcomeStop (d .result .stop) (d .result .luma)) (g .0 .1 .0 .«bit_pos» + 20600) (a .p + 20664) (d .ensures .1) (omega (arith, rw (g .1) at (k .read-ue-to .ensures .1))),
     )

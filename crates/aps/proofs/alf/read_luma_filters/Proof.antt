@@ -1,7 +1,7 @@
 -- `read_luma_filters`: the three parts one after another.
 use borrow.Author.Needs.{needs}
-use mathlib.Core.Path.{_≡_, refl, sym, ap, _∙_}
-use mathlib.Core.Bool.{Bool, cond}
+use mathlib.Core.Path.{refl, _∙_}
+use mathlib.Core.Bool.{Bool}
 use mathlib.Core.List.{List}
 use Prim.Native.Nat.{ℕ, _+_, _*_}
 use native.Mathlib.Omega.{arith}
@@ -13,12 +13,6 @@ use Rattle.aps.proofs.AlfSteps.{luma-coefficients, luma-clips}
 use Rattle.aps.proofs.StopLaws.{after-same, map-stop, stops-more, stops-ends, ▷-after}
 use Rattle.aps.proofs.alf.read_luma_filters.Statement.{statement}
 use Rattle.aps.proofs.alf.read_luma_filters.Tie as tie
-use Rattle.aps.proofs.alf.read_luma_filters.Reads as reads
-use Rattle.aps.proofs.alf.read_luma_filters.Lts as lts
-use Rattle.aps.proofs.alf.clips_sent.Reads as clips-sent-reads
-use Rattle.aps.proofs.alf.read_clips.Reads as read-clips-reads
-use Rattle.aps.proofs.alf.read_coefficients.Reads as read-coefficients-reads
-use Rattle.aps.proofs.alf.read_indexes.Reads as read-indexes-reads
 
 add-n : tie.Need-add-n
 add-n c = search needs
@@ -52,8 +46,7 @@ read-clips-requires c κs =
     let k = c .before .before .before .before in
     let i = k .before .before .before in
     let b = i .before .before .before in
-    let n = 12 * (b .args .count-minus1 + 1) in
-    (
+    let n = 12 * (b .args .count-minus1 + 1) in (
       omega arith,
       stops-more (k .read-coefficients .result) (b .args .p + 800 + 64 * n) 200000 (k .read-coefficients .ensures .1 (b .args .p + 800) (i .read-indexes .ensures .1)) (omega arith),
       omega arith,
@@ -81,8 +74,7 @@ returns c =
     let cut = rw (w .ensures .0) at (d .ensures .0) ∙ after-same (e .result) _ _ (λ q. luma-clips m s q (a .clip)) in
     let rest = ▷-after (lumaCoefficients m) (λ coeff. lumaClips (a .clip) m) s (f .result) (e .result) (d .result) coeff clips coefficients cut in
     let whole = ▷-after (lumaIndexes m) (λ idx. lumaCoefficients m ▷ λ coeff. lumaClips (a .clip) m) s (Stop.End (a .p)) (f .result) (d .result) idx (coeff, clips) (f .ensures .0) rest in
-    let ends = d .ensures .1 (a .p + 800 + 64 * n) (e .ensures .1 (a .p + 800) (f .ensures .1)) in
-    (
+    let ends = d .ensures .1 (a .p + 800 + 64 * n) (e .ensures .1 (a .p + 800) (f .ensures .1)) in (
       map-stop (λ x. toLuma (a .clip, (m, x))) (d .result) (idx, (coeff, clips)) whole,
       stops-ends (d .result) (a .p + 20600) _ (stops-more (d .result) (a .p + 800 + 64 * n + 2 * w .result) (a .p + 20600) ends (omega arith)),
     )

@@ -1,15 +1,11 @@
 -- `read_ue_to`: the value is judged when it is read.
 use borrow.Author.Needs.{needs}
 use borrow.Author.Tests.{le-leb, lt-leb}
-use mathlib.Core.Path.{_≡_, sym, ap, _∙_}
-use native.Mathlib.Omega.{arith}
+use mathlib.Core.Path.{sym, ap, _∙_}
 use Rattle.bitstream.specs.Reading.{outcomeU}
 use Rattle.aps.proofs.AlfSteps.{ueTo-read}
 use Rattle.aps.proofs.alf.read_ue_to.Statement.{statement}
 use Rattle.aps.proofs.alf.read_ue_to.Tie as tie
-use Rattle.aps.proofs.alf.read_ue_to.Reads as reads
-use Rattle.aps.proofs.alf.read_ue_to.Lts as lts
-use Rattle.aps.proofs.fields.read_ue.Reads as read-ue-reads
 
 read-ue-requires : tie.Need-read-ue-requires
 read-ue-requires c κs = search needs
