@@ -137,7 +137,7 @@ fn alf_limits() -> Vec<Case> {
     let luma = head(0, 0, 0);
     let chroma = head(0, 0, 1);
     let mut cases = Vec::new();
-    for count in [0, 1, 23, 24, 25] {
+    for count in [0u32, 1, 23, 24, 25] {
         let indexes = if count > 0 {
             vec![U(0, u32::BITS - count.leading_zeros()); 25]
         } else {

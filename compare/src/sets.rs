@@ -46,7 +46,8 @@ fn every_short_rbsp() -> Tally {
 
 /// A first byte of one of the three kinds; one id in eight is too large.
 fn plausible(random: &mut Random) -> u8 {
-    let id = random.below(if random.below(8) == 0 { 32 } else { 4 });
+    let ids = if random.below(8) == 0 { 32 } else { 4 };
+    let id = random.below(ids);
     (random.below(3) << 5 | id) as u8
 }
 

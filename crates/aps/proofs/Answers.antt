@@ -1,25 +1,16 @@
 -- What an answer that was taken apart says of the definition it equals.
-use Prim.Native.Nat.{ℕ, _≤_}
 use mathlib.Core.Path.{_≡_, sym, ap, _∙_}
-use native.Mathlib.Omega.{arith}
-use Rattle.aps.specs.declared.fields.Stop.{Stop}
-use Rattle.aps.specs.declared.fields.Stop.the-variants as Stop
 use Rattle.bitstream.specs.Outcome.{Outcome, refused, number}
 use Rattle.bitstream.specs.declared.Refusal.{Refusal}
 use Rattle.aps.specs.declared.aps.VvcAps.{VvcAps}
 use Rattle.aps.specs.declared.aps.ApsReading.{ApsReading}
 use Rattle.aps.specs.declared.aps.ApsOutcome.the-variants as Aps
 use Rattle.aps.specs.ApsSyntax.{emptySet}
-use Rattle.aps.specs.Reading.{StopsBy, outcomeAps, setGiven}
+use Rattle.aps.specs.Reading.{outcomeAps, setGiven}
 
 -- in an arm of a `match` on r: what the definition gives there
 pub answered : {F O : Type 0} (outcome : F → O) {r x : F} {o : O} → r ≡ x → outcome r ≡ o → o ≡ outcome x
 answered outcome e f = sym f ∙ ap outcome e
-
--- a stop by bit m is one by any later bit
-pub stops-more : (r : Stop) {m n : ℕ} → m ≤ n → StopsBy r m → StopsBy r n
-stops-more (Stop.End q) h k = omega arith
-stops-more (Stop.Refused e) h k = tt
 
 -- a refusal that is answered, with the empty set
 pub refused-answer : (r : ApsReading) (why : Refusal) {o : Outcome VvcAps} → (r .outcome ≡ Aps.Refused why) × (r .set ≡ emptySet) → o ≡ refused (number why)

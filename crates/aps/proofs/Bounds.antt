@@ -20,3 +20,7 @@ map-ends f (refused n) m h = tt
 pub se-ends : (s : List ℕ) (p : ℕ) {o : Outcome ℤ} → o ≡ readSe s p → EndsBy o (p + 63)
 unfolding readSe
 se-ends s p e = rw e (map-ends seValue (readUe s p) (p + 63) (ue-ends s p refl))
+
+-- the end of a value that was read
+pub ends-at : {A : Type 0} {o : Outcome A} {a : A} {q : ℕ} (m : ℕ) → o ≡ value a q → EndsBy o m → q ≤ m
+ends-at m e h = rw e at h

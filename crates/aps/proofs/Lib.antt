@@ -15,8 +15,16 @@ pub mod RbspLaws
 pub mod LocalLaws
 pub mod Marked
 pub mod Answers
+pub mod Below
 pub mod Bounds
+pub mod RowLaws
+pub mod SignedLaws
 pub mod Steps
+pub mod StopLaws
+pub mod AlfSteps
+pub mod AlternativeSteps
 pub mod LmcsSteps
+pub mod ScalingKeep
+pub mod ScalingSteps
 pub mod RbspSteps
 pub mod UnitSteps

@@ -24,15 +24,30 @@ coefficient = signed (ueTo 128)
 abbrev pub Luma : Type 0
 Luma = Bool × (ℕ × (List ℕ × ((List ℕ × List Bool) × List ℕ)))
 
+-- alf_luma_coeff_delta_idx[ filtIdx ]
+abbrev pub lumaIndexes : ℕ → Codec (List ℕ)
+lumaIndexes count-1 =
+    each 25 λ filtIdx. when (ltb 0 count-1) noNumber (judged (λ x. leb x count-1) (u (ceilLog2 (count-1 + 1))))
+
+-- alf_luma_coeff_abs[ sfIdx ][ j ], alf_luma_coeff_sign[ sfIdx ][ j ]
+abbrev pub lumaCoefficients : ℕ → Codec (List ℕ × List Bool)
+lumaCoefficients count-1 = apart (each 300 λ i. when (leb (i / 12) count-1) noSigned coefficient)
+
+-- alf_luma_clip_idx[ sfIdx ][ j ]
+abbrev pub lumaClips : Bool → ℕ → Codec (List ℕ)
+lumaClips clip count-1 = each 300 λ i. when (clip && leb (i / 12) count-1) noNumber (u 2)
+
+abbrev pub lumaFilters : Bool → ℕ → Codec (List ℕ × ((List ℕ × List Bool) × List ℕ))
+lumaFilters clip count-1 =
+    lumaIndexes count-1 ▷ λ idx.
+    lumaCoefficients count-1 ▷ λ coeff.
+    lumaClips clip count-1
+
 unfoldable pub lumaSyntax : Codec Luma
 lumaSyntax =
     flag ▷ λ clip.  -- alf_luma_clip_flag
     ueTo 24 ▷ λ count-1.  -- alf_luma_num_filters_signalled_minus1
-    each 25 (λ filtIdx. when (ltb 0 count-1) noNumber (judged (λ x. leb x count-1) (u (ceilLog2 (count-1 + 1)))))  -- alf_luma_coeff_delta_idx[ filtIdx ]
-    ▷ λ idx.
-    apart (each 300 λ i. when (leb (i / 12) count-1) noSigned coefficient)  -- alf_luma_coeff_abs[ sfIdx ][ j ], alf_luma_coeff_sign[ sfIdx ][ j ]
-    ▷ λ coeff.
-    each 300 λ i. when (clip && leb (i / 12) count-1) noNumber (u 2)  -- alf_luma_clip_idx[ sfIdx ][ j ]
+    lumaFilters clip count-1
 
 abbrev pub noLuma : Inferred Luma
 noLuma = noPair noFlag (noPair noNumber (noPair (noList 25 noNumber) (noPair (noPair (noList 300 noNumber) (noList 300 noFlag)) (noList 300 noNumber))))
@@ -65,14 +80,21 @@ alternative clip count-1 altIdx =
     ▷ λ coeff.
     each 6 λ j. when (clip && leb altIdx count-1) noNumber (u 2)  -- alf_chroma_clip_idx[ altIdx ][ j ]
 
+abbrev pub alternatives : Bool → ℕ → Codec (List (ℕ × Bool) × List ℕ)
+alternatives clip count-1 = flat 8 6 (each 8 (alternative clip count-1))
+
 unfoldable pub chromaSyntax : Codec Chroma
 chromaSyntax =
     flag ▷ λ clip.  -- alf_chroma_clip_flag
     ueTo 7 ▷ λ count-1.  -- alf_chroma_num_alt_filters_minus1
-    flat 8 6 (each 8 (alternative clip count-1))
+    alternatives clip count-1
 
 abbrev pub noChroma : Inferred Chroma
 noChroma = noPair noFlag (noPair noNumber (noPair (noList 48 noSigned) (noList 48 noNumber)))
+
+-- magnitudes, signs and clips
+abbrev pub chromaArrays : List (ℕ × Bool) × List ℕ → List ℕ × (List Bool × List ℕ)
+chromaArrays x = (firsts (x .0), (seconds (x .0), x .1))
 
 unfoldable pub toChroma : Chroma → VvcAlfChroma
 toChroma x =
@@ -94,10 +116,14 @@ chroma signal = via toChroma fromChroma (λ d. eqb (length (d .«coeff_abs»)) (
 abbrev pub Cc : Type 0
 Cc = ℕ × (List ℕ × List Bool)
 
+-- alf_cc_cb_mapped_coeff_abs[ k ][ j ], alf_cc_cb_coeff_sign[ k ][ j ]
+abbrev pub ccCoefficients : ℕ → Codec (List ℕ × List Bool)
+ccCoefficients count-1 = apart (each 28 λ i. when (leb (i / 7) count-1) noSigned (signed (u 3)))
+
 unfoldable pub ccSyntax : Codec Cc
 ccSyntax =
     ueTo 3 ▷ λ count-1.  -- alf_cc_cb_filters_signalled_minus1
-    apart (each 28 λ i. when (leb (i / 7) count-1) noSigned (signed (u 3)))  -- alf_cc_cb_mapped_coeff_abs[ k ][ j ], alf_cc_cb_coeff_sign[ k ][ j ]
+    ccCoefficients count-1
 
 abbrev pub noCc : Inferred Cc
 noCc = noPair noNumber (noPair (noList 28 noNumber) (noList 28 noFlag))
@@ -115,16 +141,20 @@ cc signal = via toCc fromCc (λ d. true) (when signal noCc ccSyntax)
 abbrev pub AlfData : Type 0
 AlfData = Bool × (Bool × (Bool × (Bool × (VvcAlfLuma × (VvcAlfChroma × (VvcAlfCcFilters × VvcAlfCcFilters))))))
 
+abbrev pub alfFilters : Bool → Bool → Bool → Bool → Codec (VvcAlfLuma × (VvcAlfChroma × (VvcAlfCcFilters × VvcAlfCcFilters)))
+alfFilters lumaSignal chromaSignal cbSignal crSignal =
+    luma lumaSignal ▷ λ d.
+    chroma chromaSignal ▷ λ d.
+    cc cbSignal ▷ λ d.
+    cc crSignal
+
 unfoldable pub alfSyntax : Bool → Codec AlfData
 alfSyntax chromaPresent =
     flag ▷ λ lumaSignal.  -- alf_luma_filter_signal_flag
     when chromaPresent noFlag flag ▷ λ chromaSignal.  -- alf_chroma_filter_signal_flag
     when chromaPresent noFlag flag ▷ λ cbSignal.  -- alf_cc_cb_filter_signal_flag
     when chromaPresent noFlag flag ▷ λ crSignal.  -- alf_cc_cr_filter_signal_flag
-    luma lumaSignal ▷ λ d.
-    chroma chromaSignal ▷ λ d.
-    cc cbSignal ▷ λ d.
-    cc crSignal
+    alfFilters lumaSignal chromaSignal cbSignal crSignal
 
 unfoldable pub toAlf : AlfData → VvcAlfData
 toAlf x =

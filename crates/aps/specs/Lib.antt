@@ -7,3 +7,4 @@ pub mod ApsSyntax
 pub mod Rbsp
 pub mod Unit
 pub mod Reading
+pub mod Stops

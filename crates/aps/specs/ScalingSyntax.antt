@@ -5,6 +5,7 @@ use Prim.Native.Nat.{ℕ, zero, suc, _+_, _*_, _-_, _%_, min}
 use lib.Dec.{leb, ltb, eqb}
 use lib.IntN.{ℤ, pos, negsuc, _+ℤ_, _-ℤ_}
 use lib.ListN.{length, getD, take, drop, replicate}
+use lib.Seq.{sets}
 use Rattle.aps.specs.Codec.{Codec, u, ue, _▷_, via, judged, Inferred, when, each}
 use Rattle.aps.specs.Elements.{flag, ueTo, seIn, noFlag, noNumber, noPair, joined}
 use Rattle.aps.specs.declared.scaling_list.VvcScalingListData.{VvcScalingListData}
@@ -58,6 +59,10 @@ someLeft (x ∷ xs) = true
 unfoldable pub step : ℤ → Codec ℤ
 step prev = via (λ d. d +ℤ prev) (λ v. v -ℤ prev) (λ v. true) (seIn (negsuc 127) (pos 127))
 
+-- the sum at position i, after prev
+abbrev pub stepAt : ℕ → ℕ → ℤ → Codec ℤ
+stepAt id i prev = when (not (skipped id i)) (just prev) (step prev)
+
 -- n running sums from position i on, after prev; a skipped one repeats the sum
 unfoldable pub sums : ℕ → ℕ → ℕ → ℤ → Codec (List ℤ)
 sums id i zero prev = each 0 (λ j. step prev)
@@ -74,6 +79,13 @@ unfoldable pub coefficients : ℕ → Codec (ℤ × List ℤ)
 coefficients id =
     when (ltb 13 id) (just (pos 0)) (seIn (negsuc 127) (pos 127)) ▷ λ dc.  -- scaling_list_dc_coef[ id - 14 ]
     sums id 0 (entries id) dc
+
+-- the DC, and the delta where an id is copied or predicted
+abbrev pub dcAt : ℕ → Codec ℤ
+dcAt id = when (ltb 13 id) (just (pos 0)) (seIn (negsuc 127) (pos 127))
+
+abbrev pub deltaAt : ℕ → Bool → Codec ℕ
+deltaAt id used = when (used && not (eqb id 0 || eqb id 2 || eqb id 8)) noNumber (ueTo (maxIdDelta id))
 
 abbrev pub noEntries : Inferred (List ℤ)
 noEntries = record { default = []; is = λ l. eqb (length l) 0 }
@@ -92,6 +104,9 @@ copied = record { default = true; is = λ b. b }
 abbrev pub noEntry : Inferred Entry
 noEntry = noPair copied (noPair noFlag (noPair noNumber (noPair (just (pos 0)) noEntries)))
 
+abbrev pub idAt : Bool → ℕ → Codec Entry
+idAt chroma id = when (idCoded chroma id) noEntry (entrySyntax id)
+
 unfoldable pub scalingSyntax : Bool → Codec (List Entry)
 scalingSyntax chroma = each 28 λ id. when (idCoded chroma id) noEntry (entrySyntax id)
 
@@ -108,6 +123,13 @@ keep es =
       «dc_coef» = drop 14 (map (λ e. e .1 .1 .1 .0) es);
       «scaling_list» = joined (map (λ e. filled (e .1 .1 .1 .1)) es);
     }
+
+-- the list of an id stored at 64 * id of the flat array l
+abbrev pub storedList : List ℤ → ℕ → ℤ × List ℤ → ℤ × List ℤ
+storedList l id x = (x .0, sets l (64 * id) (x .1))
+
+abbrev pub stored : List ℤ → ℕ → Entry → Entry
+stored l id e = (e .0, (e .1 .0, (e .1 .1 .0, storedList l id (e .1 .1 .1))))
 
 -- What the writer looks at: of an uncoded id nothing; of a copy not the DC and the list; of a list not what is past the matrix.
 unfoldable pub looked : Bool → ℕ → Bool → Bool → ℕ → ℤ → List ℤ → Entry

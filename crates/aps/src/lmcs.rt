@@ -12,7 +12,8 @@ ghost use lib.ListN.{length};
 ghost use Rattle.aps.specs.Codec.{when};
 ghost use Rattle.aps.specs.LmcsSyntax.{inRange, lmcsHead, lmcsCodewords, lmcsChroma, lmcsRest, lmcs};
 ghost use Rattle.aps.specs.ApsSyntax.{zeroLmcs};
-ghost use Rattle.aps.specs.Reading.{EndsBy, StopsBy, outcomeStop, outcomeSigned};
+ghost use Rattle.aps.specs.Reading.{EndsBy, outcomeStop, outcomeSigned};
+ghost use Rattle.aps.specs.Stops.{StopsBy};
 
 pub struct VvcLmcsData {
     pub lmcs_min_bin_idx: u32,

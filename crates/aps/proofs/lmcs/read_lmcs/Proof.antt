@@ -7,8 +7,10 @@ use native.Mathlib.Omega.{arith}
 use Rattle.bitstream.specs.Outcome.{value}
 use Rattle.aps.specs.Codec.{ue, _▷_}
 use Rattle.aps.specs.LmcsSyntax.{inRange, lmcsHead}
-use Rattle.aps.specs.Reading.{StopsBy, outcomeStop}
-use Rattle.aps.proofs.Answers.{answered, stops-more}
+use Rattle.aps.specs.Reading.{outcomeStop}
+use Rattle.aps.specs.Stops.{StopsBy}
+use Rattle.aps.proofs.Answers.{answered}
+use Rattle.aps.proofs.StopLaws.{stops-more}
 use Rattle.aps.proofs.LmcsSteps.{lmcs-refused, lmcs-read}
 use Rattle.aps.proofs.Steps.{judged-true}
 use Rattle.aps.proofs.lmcs.read_lmcs.Statement.{statement}
@@ -39,7 +41,7 @@ no-lmcs-requires : tie.Need-no-lmcs-requires
 no-lmcs-requires c κs = search needs
 
 returns : tie.Need-returns
-returns c = (c .read-rest .ensures .0 ∙ sym (lmcs-read _ _ _ _ _ (head (c .before) .0)), stops-more (c .read-rest .result .stop) (omega (arith, head (c .before) .1)) (c .read-rest .ensures .1))
+returns c = (c .read-rest .ensures .0 ∙ sym (lmcs-read _ _ _ _ _ (head (c .before) .0)), stops-more (c .read-rest .result .stop) _ _ (c .read-rest .ensures .1) (omega (arith, head (c .before) .1)))
 
 returns-2 : tie.Need-returns-2
 returns-2 c =

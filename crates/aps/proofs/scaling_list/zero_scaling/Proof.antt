@@ -1,4 +1,4 @@
--- `zero_scaling`: every field zero.
+-- `zero_scaling`: arrays of zeros, as defined.
 use mathlib.Core.Path.{refl}
 use Rattle.aps.specs.ApsSyntax.{zeroScaling}
 use Rattle.aps.proofs.scaling_list.zero_scaling.Statement.{statement}

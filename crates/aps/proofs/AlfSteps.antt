@@ -1,0 +1,171 @@
+-- The steps of alf_data( ), as its readers take them.
+use mathlib.Core.Path.{_≡_, refl, sym, ap, _∙_}
+use mathlib.Core.Bool.{Bool, true, false, cond, not, _&&_}
+use mathlib.Core.List.{List, _∷_}
+use Prim.Native.Nat.{ℕ, zero, suc, _+_, _-_, _*_, _/_, _^_, _≤_, _<_}
+use native.Mathlib.Omega.{arith}
+use borrow.Author.Tests.{ltb-true, ltb-false, leb-true, lt-ltb, le-ltb, le-leb, lt-leb}
+use lib.Dec.{leb, ltb, eqb}
+use lib.ListN.{replicate}
+use Rattle.bitstream.specs.Outcome.{Outcome, value, refused, mapOutcome, _then_}
+use Rattle.bitstream.specs.Bits.{fieldAt}
+use Rattle.bitstream.specs.Fields.{readUe}
+use Rattle.bitstream.proofs.CodeLaws.{value-refused}
+use Rattle.bitstream.proofs.FieldLaws.{field-lt}
+use Rattle.aps.specs.Codec.{Codec, u, ue, _▷_, via, judged, Inferred, when, eachFrom, each}
+use Rattle.aps.specs.Elements.{flag, ueTo, signed, noNumber, noSigned, apart}
+use Rattle.aps.specs.AlfSyntax.{ceilLog2, coefficient, lumaCoefficients, lumaClips}
+use Rattle.aps.specs.AlfSyntax.{ccSyntax, ccCoefficients, toCc, alf, alfSyntax, alfFilters, toAlf}
+use Rattle.aps.specs.declared.alf.VvcAlfLuma.{VvcAlfLuma}
+use Rattle.aps.specs.declared.alf.VvcAlfChroma.{VvcAlfChroma}
+use Rattle.aps.specs.declared.alf.VvcAlfCcFilters.{VvcAlfCcFilters}
+use Rattle.aps.specs.declared.alf.VvcAlfData.{VvcAlfData}
+use Rattle.aps.specs.AlfSyntax as Alf
+use Rattle.aps.proofs.Steps.{u-read, flag-read, signed-read, judged-read, when-read, Reading, reading-start, Reading2, reading2-start}
+
+pub ueTo-read : (most : ℕ) (s : List ℕ) (p : ℕ) → (ueTo most) .read s p ≡ _then_ (readUe s p) (λ v q. cond (leb v most) (value v q) (refused 2))
+unfolding ueTo judged ue
+ueTo-read most s p = refl
+
+pub ueTo-most : (most : ℕ) (s : List ℕ) (p v q : ℕ) → value v q ≡ (ueTo most) .read s p → v ≤ most
+ueTo-most most s p v q e = first (readUe s p) (e ∙ ueTo-read most s p)
+  where
+    second : (w r : ℕ) (b : Bool) → leb w most ≡ b → value v q ≡ cond b (value w r) (refused 2) → v ≤ most
+    second w r true h e = let same : v ≡ w = cc in rw same (leb-true w most h)
+    second w r false h e = absurd (value-refused e)
+
+    first : (o : Outcome ℕ) → value v q ≡ _then_ o (λ v q. cond (leb v most) (value v q) (refused 2)) → v ≤ most
+    first (value w r) e = second w r (leb w most) refl e
+    first (refused n) e = absurd (value-refused e)
+
+-- arrays whose entries are read alike
+module _ {A : Type 0} (k l : ℕ → Codec A) (s : List ℕ) where
+  each-same-from : (i n p : ℕ) → ((j : ℕ) → j < i + n → (q : ℕ) → (k j) .read s q ≡ (l j) .read s q) → (eachFrom i n k) .read s p ≡ (eachFrom i n l) .read s p
+  unfolding eachFrom
+  each-same-from i zero p h = refl
+  each-same-from i (suc n) p h = rw (h i (omega arith) p) (go ((l i) .read s p) (λ q. each-same-from (suc i) n q (λ j b. h j (omega arith))))
+    where
+      go : (o : Outcome A) → ((q : ℕ) → (eachFrom (suc i) n k) .read s q ≡ (eachFrom (suc i) n l) .read s q)
+          → _then_ o (λ x q. _then_ ((eachFrom (suc i) n k) .read s q) (λ xs r. value (x ∷ xs) r)) ≡ _then_ o (λ x q. _then_ ((eachFrom (suc i) n l) .read s q) (λ xs r. value (x ∷ xs) r))
+      go (value x q) ih = rw (ih q)
+      go (refused e) ih = refl
+
+  pub each-same : (n p : ℕ) → ((j : ℕ) → j < n → (q : ℕ) → (k j) .read s q ≡ (l j) .read s q) → (each n k) .read s p ≡ (each n l) .read s p
+  each-same n p h = each-same-from 0 n p (λ j b. h j (omega arith))
+
+-- an entry of a flat array is in a row that is sent, or below the count of entries sent
+pub row-test : (i n : ℕ) → ltb i (12 * (n + 1)) ≡ leb (i / 12) n
+row-test i n = go (ltb i (12 * (n + 1))) refl
+  where
+    go : (b : Bool) → ltb i (12 * (n + 1)) ≡ b → b ≡ leb (i / 12) n
+    go true e = sym (le-leb (i / 12) n (omega (arith, ltb-true i (12 * (n + 1)) e)))
+    go false e = sym (lt-leb (i / 12) n (omega (arith, ltb-false i (12 * (n + 1)) e)))
+
+pub sent-test : (clip : Bool) (i n : ℕ) → ltb i (cond clip n 0) ≡ (clip && ltb i n)
+sent-test true i n = refl
+sent-test false i n = le-ltb i 0 (omega arith)
+
+module _ (n : ℕ) (s : List ℕ) (p : ℕ) where
+  pub luma-coefficients : (apart (each 300 λ i. when (ltb i (12 * (n + 1))) noSigned coefficient)) .read s p ≡ (lumaCoefficients n) .read s p
+  unfolding apart via
+  luma-coefficients =
+      rw (each-same (λ i. when (ltb i (12 * (n + 1))) noSigned coefficient) (λ i. when (leb (i / 12) n) noSigned coefficient) s 300 p (λ j h q. rw (row-test j n)))
+
+  pub luma-clips : (clip : Bool) → (each 300 λ i. when (ltb i (cond clip (12 * (n + 1)) 0)) noNumber (u 2)) .read s p ≡ (lumaClips clip n) .read s p
+  luma-clips clip =
+      each-same (λ i. when (ltb i (cond clip (12 * (n + 1)) 0)) noNumber (u 2)) (λ i. when (clip && leb (i / 12) n) noNumber (u 2)) s 300 p
+      (λ j h q. rw (sent-test clip j (12 * (n + 1)), row-test j n))
+
+-- a loop starts with arrays of what is inferred
+pub reading-from : {A : Type 0} (k : ℕ → Codec A) (N : ℕ) (v : A) (s : List ℕ) (p : ℕ) (a : List A) → a ≡ replicate N v → Reading k N v s p 0 a p
+reading-from k N v s p a e = rw e (reading-start k N v s p)
+
+pub reading2-from : {A B : Type 0} (k : ℕ → Codec (A × B)) (N : ℕ) (v : A) (w : B) (s : List ℕ) (p : ℕ) (a : List A) (b : List B)
+    → a ≡ replicate N v → b ≡ replicate N w → Reading2 k N v w s p 0 a b p
+reading2-from k N v w s p a b e f = rw (e, f) (reading2-start k N v w s p)
+
+-- an index, where there is more than one filter
+module _ (count-1 : ℕ) (s : List ℕ) (q bits x : ℕ) (width : bits ≡ ceilLog2 (count-1 + 1)) (field : x ≡ fieldAt s q bits) (some : 0 < count-1) where
+  abbrev index : Codec ℕ
+  index = when (ltb 0 count-1) noNumber (judged (λ x. leb x count-1) (u (ceilLog2 (count-1 + 1))))
+
+  pub index-taken : x ≤ count-1 → index .read s q ≡ value x (q + bits)
+  index-taken h = rw (when-read, lt-ltb 0 count-1 some, judged-read, ← width, u-read, ← field, le-leb x count-1 h)
+
+  pub index-refused : count-1 < x → index .read s q ≡ refused 2
+  index-refused h = rw (when-read, lt-ltb 0 count-1 some, judged-read, ← width, u-read, ← field, lt-leb x count-1 h)
+
+-- a magnitude u(n) is below 2 ^ n
+pub signed-lt : (n : ℕ) (s : List ℕ) (p m : ℕ) (b : Bool) (q : ℕ) → _≡_ {A = Outcome (ℕ × Bool)} (value (m, b) q) ((signed (u n)) .read s p) → m < 2 ^ n
+signed-lt n s p m b q e = go (cond (not (eqb (fieldAt s p n) 0)) (flag .read s (p + n)) (value false (p + n))) (rw (signed-read, u-read) at e)
+  where
+    go : (o : Outcome Bool) → _≡_ {A = Outcome (ℕ × Bool)} (value (m, b) q) (_then_ o (λ c r. value (fieldAt s p n, c) r)) → m < 2 ^ n
+    go (value c r) e =
+        let same : _≡_ {A = ℕ × Bool} (m, b) (fieldAt s p n, c) = cc in
+        rw (ap {B = ℕ} (λ x. x .0) same) (field-lt s p n)
+    go (refused r) e = absurd (value-refused e)
+
+-- a flag, a count that is judged, and what they announce
+module _ {A B : Type 0} (to : Bool × (ℕ × A) → B) (from : B → Bool × (ℕ × A)) (test : B → Bool) (d : Inferred (Bool × (ℕ × A))) (most : ℕ) (filters : Bool → ℕ → Codec A) (s : List ℕ) (p : ℕ) where
+  abbrev pub headed : Codec B
+  headed = via to from test (when true d (flag ▷ λ clip. ueTo most ▷ λ n. filters clip n))
+
+  pub head-value : (clip : Bool) (n q : ℕ) → clip ≡ not (eqb (fieldAt s p 1) 0) → (ueTo most) .read s (p + 1) ≡ value n q
+      → headed .read s p ≡ mapOutcome (λ x. to (clip, (n, x))) ((filters clip n) .read s q)
+  unfolding via when _▷_
+  head-value clip n q h e = rw (flag-read s p, ← h, e) (go ((filters clip n) .read s q))
+    where
+      go : (o : Outcome A) → _then_ (_then_ (_then_ o (λ x r. value (n, x) r)) (λ x r. value (clip, x) r)) (λ x r. value (to x) r) ≡ mapOutcome (λ x. to (clip, (n, x))) o
+      go (value x r) = refl
+      go (refused e) = refl
+
+  pub head-refused : (e : ℕ) → (ueTo most) .read s (p + 1) ≡ refused e → headed .read s p ≡ refused e
+  unfolding via when _▷_
+  head-refused e h = rw (flag-read s p, h)
+
+module _ (s : List ℕ) (p : ℕ) where
+  pub cc-read : (Alf.cc true) .read s p ≡ _then_ ((ueTo 3) .read s p) (λ n q. mapOutcome (λ x. toCc (n, x)) ((ccCoefficients n) .read s q))
+  unfolding Alf.cc ccSyntax via when _▷_
+  cc-read = first ((ueTo 3) .read s p)
+    where
+      second : (n : ℕ) (o : Outcome (List ℕ × List Bool)) → _then_ (_then_ o (λ x r. value (n, x) r)) (λ x r. value (toCc x) r) ≡ mapOutcome (λ x. toCc (n, x)) o
+      second n (value x r) = refl
+      second n (refused e) = refl
+
+      first : (o : Outcome ℕ)
+          → _then_ (_then_ o (λ n q. _then_ ((ccCoefficients n) .read s q) (λ x r. value (n, x) r))) (λ x r. value (toCc x) r)
+          ≡ _then_ o (λ n q. mapOutcome (λ x. toCc (n, x)) ((ccCoefficients n) .read s q))
+      first (value n q) = second n ((ccCoefficients n) .read s q)
+      first (refused e) = refl
+
+-- a part that is not signalled
+pub via-absent : {A B : Type 0} (to : A → B) (from : B → A) (test : B → Bool) (d : Inferred A) (c : Codec A) (s : List ℕ) (p : ℕ)
+    → (via to from test (when false d c)) .read s p ≡ value (to (d .default)) p
+unfolding via when
+via-absent to from test d c s p = refl
+
+-- the four flags, or the first alone
+module _ (s : List ℕ) (p : ℕ) (lumaSignal : Bool) (is-luma : lumaSignal ≡ not (eqb (fieldAt s p 1) 0)) where
+  abbrev announced : Bool → Bool → Bool → ℕ → Outcome VvcAlfData
+  announced chromaSignal cbSignal crSignal q =
+      mapOutcome (λ x. toAlf (lumaSignal, (chromaSignal, (cbSignal, (crSignal, x))))) ((alfFilters lumaSignal chromaSignal cbSignal crSignal) .read s q)
+
+  flags-then : (chromaSignal cbSignal crSignal : Bool) (o : Outcome (VvcAlfLuma × (VvcAlfChroma × (VvcAlfCcFilters × VvcAlfCcFilters))))
+      → _then_ (_then_ (_then_ (_then_ (_then_ o (λ x r. value (crSignal, x) r)) (λ x r. value (cbSignal, x) r)) (λ x r. value (chromaSignal, x) r)) (λ x r. value (lumaSignal, x) r)) (λ x r. value (toAlf x) r)
+      ≡ mapOutcome (λ x. toAlf (lumaSignal, (chromaSignal, (cbSignal, (crSignal, x))))) o
+  flags-then chromaSignal cbSignal crSignal (value x q) = refl
+  flags-then chromaSignal cbSignal crSignal (refused e) = refl
+
+  pub alf-without : (alf false) .read s p ≡ announced false false false (p + 1)
+  unfolding alf via alfSyntax _▷_ when
+  alf-without = rw (flag-read s p, ← is-luma) (flags-then false false false ((alfFilters lumaSignal false false false) .read s (p + 1)))
+
+  pub alf-with : (chromaSignal cbSignal crSignal : Bool) → chromaSignal ≡ not (eqb (fieldAt s (p + 1) 1) 0) → cbSignal ≡ not (eqb (fieldAt s (p + 2) 1) 0)
+      → crSignal ≡ not (eqb (fieldAt s (p + 3) 1) 0) → (alf true) .read s p ≡ announced chromaSignal cbSignal crSignal (p + 4)
+  unfolding alf via alfSyntax _▷_ when
+  alf-with chromaSignal cbSignal crSignal is-chroma is-cb is-cr =
+      let second : p + 1 + 1 ≡ p + 2 = omega arith in
+      let third : p + 2 + 1 ≡ p + 3 = omega arith in
+      let fourth : p + 3 + 1 ≡ p + 4 = omega arith in
+      rw (flag-read s p, ← is-luma, flag-read s (p + 1), ← is-chroma, second, flag-read s (p + 2), ← is-cb, third, flag-read s (p + 3), ← is-cr, fourth)
+      (flags-then chromaSignal cbSignal crSignal ((alfFilters lumaSignal chromaSignal cbSignal crSignal) .read s (p + 4)))

@@ -1,0 +1,66 @@
+-- `read_coefficient`: a sign is read after a magnitude that is taken and is not 0.
+use borrow.Author.Needs.{needs}
+use borrow.Author.Tests.{ne-eqb}
+use mathlib.Core.Path.{sym, ap, _∙_}
+use native.Mathlib.Omega.{arith}
+use Rattle.bitstream.specs.Reading.{outcomeU}
+use Rattle.aps.specs.AlfSyntax.{coefficient}
+use Rattle.aps.proofs.Steps.{signed-read, flag-read}
+use Rattle.aps.proofs.alf.read_coefficient.Statement.{statement}
+use Rattle.aps.proofs.alf.read_coefficient.Tie as tie
+
+read-ue-to-requires : tie.Need-read-ue-to-requires
+read-ue-to-requires c κs = search needs
+
+enum-known-magnitude : tie.Need-enum-known-magnitude
+enum-known-magnitude c = search needs
+
+returns : tie.Need-returns
+unfolding coefficient
+returns c =
+    let k = c .before .before .before .before .read-ue-to in
+    let f = c .before .before .magnitude .given in
+    let e = sym (k .ensures .0) ∙ ap outcomeU (f .1) in
+    let z = c .if1 .taken in
+    (rw (signed-read, e, z), omega (arith, rw (f .1) at (k .ensures .1)))
+
+read-flag-requires : tie.Need-read-flag-requires
+read-flag-requires c κs =
+    let k = c .before .before .before .before .read-ue-to in
+    (omega arith, omega (arith, rw (c .before .before .magnitude .given .1) at (k .ensures .1)))
+
+add-t10 : tie.Need-add-t10
+add-t10 c =
+    let k = c .before .before .before .before .before .read-ue-to in
+    omega (arith, rw (c .before .before .before .magnitude .given .1) at (k .ensures .1))
+
+enum-known-magnitude-2 : tie.Need-enum-known-magnitude-2
+enum-known-magnitude-2 c = search needs
+
+returns-2 : tie.Need-returns-2
+unfolding coefficient
+returns-2 c =
+    let k = c .before .before .before .before .before .read-ue-to in
+    let f = c .before .before .before .magnitude .given in
+    let e = sym (k .ensures .0) ∙ ap outcomeU (f .1) in
+    (rw (signed-read, e, ne-eqb _ _ (c .before .if1 .left), flag-read, c .read-flag .ensures), omega (arith, rw (f .1) at (k .ensures .1)))
+
+returns-3 : tie.Need-returns-3
+unfolding coefficient
+returns-3 c =
+    let k = c .before .before .before .read-ue-to in
+    let e = sym (k .ensures .0) ∙ ap outcomeU (c .before .magnitude2 .given .1) in
+    (rw (signed-read, e), tt)
+
+pub read-coefficient-spec : {M : Type 1} → statement M
+read-coefficient-spec =
+    tie.close
+    (tie.spec
+    read-ue-to-requires
+    enum-known-magnitude
+    returns
+    read-flag-requires
+    add-t10
+    enum-known-magnitude-2
+    returns-2
+    returns-3)
