@@ -1,4 +1,4 @@
-//! The sample that the program `replay_sets` reads, an RBSP and its name to a line, and what the program must write: the Rust's answers.
+//! The sample that the program `replay_sets` reads, a name and an RBSP to a line, and what the program must write: the Rust's answers.
 
 use crate::bit_writer::BitWriter;
 use crate::expected;
@@ -15,7 +15,7 @@ struct Case {
 pub fn print_sample() {
     for case in sample() {
         let hex: String = case.rbsp.iter().map(|b| format!("{b:02X}")).collect();
-        println!("{hex} {}", case.name);
+        println!("{}: {hex}", case.name);
     }
 }
 

@@ -83,6 +83,23 @@ pub extern "C" fn aps_parse_rbsp(bytes: &[u8], set: &mut [i64; 3122], end: &mut 
     answered(parse_aps_rbsp(bytes), set, end)
 }
 
+// Whether there is a set, and the bit where reading it ended.
+#[no_mangle]
+pub extern "C" fn aps_rbsp_end(bytes: &[u8], end: &mut [u64; 1]) -> u32
+    ensures code { λ r. ⌜ r ≡ code (parseApsRbsp (now (bytes .entry))) ⌝ }
+    ensures end { λ _. ⌜ now (end .exit) ≡ placed (parseApsRbsp (now (bytes .entry))) (now (end .entry)) ⌝ }
+{
+    let reading = parse_aps_rbsp(bytes);
+    let outcome = reading.outcome;
+    match outcome {
+        ApsOutcome::Read(q) => {
+            end[0] = q as u64;
+            0
+        }
+        ApsOutcome::Refused(e) => number(e),
+    }
+}
+
 #[no_mangle]
 pub extern "C" fn aps_parse(
     unit: &[u8],
