@@ -130,7 +130,7 @@ fn head(kind: u32, id: u32, chroma: u32) -> [Field; 3] {
     [U(kind, 3), U(id, 5), U(chroma, 1)]
 }
 
-/// Magnitudes of 0, or clips or signs of 0.
+/// Magnitudes of 0.
 const ZEROS: [Field; 12] = [Ue(0); 12];
 
 fn alf_limits() -> Vec<Case> {
@@ -173,13 +173,9 @@ fn alf_limits() -> Vec<Case> {
     }
     for (name, signal) in [("Cb", 2), ("Cr", 1)] {
         for count in [0, 3, 4] {
-            let filters = vec![U(0b111_1_000, 7); 7 * (count as usize + 1) / 2 + 1];
-            let rbsp = written(&[
-                &chroma,
-                &[U(signal, 4), Ue(count)],
-                &filters[..filters.len() - 1],
-                &[U(0, 3)],
-            ]);
+            let coefficient = |i| if i % 2 == 0 { U(0b111_1, 4) } else { U(0, 3) };
+            let filters: Vec<Field> = (0..7 * (count + 1)).map(coefficient).collect();
+            let rbsp = written(&[&chroma, &[U(signal, 4), Ue(count)], &filters]);
             cases.push(case(format!("ALF {name} count-1 {count}"), &rbsp));
         }
     }
