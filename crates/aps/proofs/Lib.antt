@@ -1,5 +1,6 @@
 pub mod Below
 pub mod Bounds
+pub mod Gives
 pub mod PairLaws
 pub mod ScalingKeep
 pub mod ScalingSteps
