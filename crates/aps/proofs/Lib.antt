@@ -17,6 +17,7 @@ pub mod Marked
 pub mod Answers
 pub mod Below
 pub mod Bounds
+pub mod Gives
 pub mod RowLaws
 pub mod SignedLaws
 pub mod Steps

@@ -14,7 +14,8 @@ use Rattle.aps.specs.Elements.{joined}
 use Rattle.aps.specs.ScalingSyntax.{Entry, idAt, scalingSyntax, filled, keep, stored}
 use Rattle.aps.specs.declared.scaling_list.VvcScalingListData.{VvcScalingListData}
 use Rattle.aps.proofs.Steps.{Reading, reading-start, reading-more, reading-refused, reading-done}
-use Rattle.aps.proofs.ScalingSteps.{Short, given, id-short}
+use Rattle.aps.proofs.Gives.{given}
+use Rattle.aps.proofs.ScalingSteps.{Short, id-short}
 
 -- ---- stores
 

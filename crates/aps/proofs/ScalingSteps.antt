@@ -14,44 +14,14 @@ use lib.ListN.{length, set}
 use lib.Seq.{sets}
 use Rattle.bitstream.specs.Outcome.{Outcome, value, refused, mapOutcome, _then_}
 use Rattle.bitstream.specs.Fields.{readUe, readSe, seValue}
-use Rattle.aps.specs.Codec.{Codec, ue, _▷_, via, judged, Inferred, when, eachFrom}
+use Rattle.aps.specs.Codec.{Codec, ue, _▷_, via, judged, when, eachFrom}
 use Rattle.aps.specs.Elements.{flag, se, seIn, ueTo, noFlag, noPair}
 use Rattle.aps.specs.ScalingSyntax.{skipped, entries, idCoded, just, step, stepAt, sums, cons, Entry, coefficients, dcAt, deltaAt, noEntries, noEntry, entrySyntax, idAt, storedList, stored}
-use Rattle.aps.specs.Reading.{EndsBy, outcomeStop}
+use Rattle.aps.specs.Reading.{outcomeStop}
 use Rattle.aps.specs.declared.fields.Stop.{Stop}
 use Rattle.aps.specs.declared.fields.Stop.the-variants as Stop
+use Rattle.aps.proofs.Gives.{Gives, given, gives-then, gives-▷, gives-when}
 use Rattle.aps.proofs.SignedLaws.{add-abs, not-ltZ}
-
--- the values that a reading can give
-module _ {A : Type 0} where
-  abbrev pub Gives : (A → Type 0) → Outcome A → Type 0
-  Gives P (value a q) = P a
-  Gives P (refused e) = Unit {0}
-
-  pub given : (P : A → Type 0) {o : Outcome A} {a : A} {q : ℕ} → o ≡ value a q → Gives P o → P a
-  given P e g = rw e at g
-
-module _ {A B : Type 0} where
-  gives-then : (P : A → Type 0) (Q : B → Type 0) (o : Outcome A) (f : A → ℕ → Outcome B) → Gives P o → ((a : A) (q : ℕ) → P a → Gives Q (f a q)) → Gives Q (_then_ o f)
-  gives-then P Q (value a q) f g h = h a q g
-  gives-then P Q (refused e) f g h = tt
-
-  gives-▷ : (c : Codec A) (k : A → Codec B) (P : A × B → Type 0) (s : List ℕ) (p : ℕ) → ((a : A) (q : ℕ) → Gives (λ b. P (a, b)) ((k a) .read s q)) → Gives P ((c ▷ k) .read s p)
-  unfolding _▷_
-  gives-▷ c k P s p h = first (c .read s p)
-    where
-      last : (a : A) (o : Outcome B) → Gives (λ b. P (a, b)) o → Gives P (_then_ {B = A × B} o (λ b r. value (a, b) r))
-      last a (value b r) g = g
-      last a (refused e) g = tt
-
-      first : (o : Outcome A) → Gives P (_then_ {B = A × B} o (λ a q. _then_ ((k a) .read s q) (λ b r. value (a, b) r)))
-      first (value a q) = last a ((k a) .read s q) (h a q)
-      first (refused e) = tt
-
-gives-when : {A : Type 0} (b : Bool) (d : Inferred A) (c : Codec A) (P : A → Type 0) (s : List ℕ) (p : ℕ) → Gives P (c .read s p) → P (d .default) → Gives P ((when b d c) .read s p)
-unfolding when
-gives-when true d c P s p g h = g
-gives-when false d c P s p g h = h
 
 -- ---- se(v) in a range
 
@@ -217,13 +187,8 @@ pub ueTo-read : (most : ℕ) (s : List ℕ) (p : ℕ) → (ueTo most) .read s p 
 unfolding ueTo judged ue
 ueTo-read most s p = refl
 
--- ---- what a callee stored, in the caller's answer
+-- ---- what a callee stored, in the caller's answer: f of what the callee read is g of what the caller reads
 
-pub stop-ends : {A B : Type 0} (t : Stop) (x : A) (y : B) (m n : ℕ) → m ≤ n → EndsBy (outcomeStop t x) m → EndsBy (outcomeStop t y) n
-stop-ends (Stop.End q) x y m n h e = omega arith
-stop-ends (Stop.Refused k) x y m n h e = tt
-
--- f of what the callee read is g of what the caller reads
 stop-map : {A B C D : Type 0} (f : A → B) (g : C → B) (h : D → A) (k : D → C) → ((d : D) → f (h d) ≡ g (k d)) → (t : Stop) (x : A) (o : Outcome D)
     → outcomeStop t x ≡ mapOutcome h o → outcomeStop t (f x) ≡ mapOutcome g (mapOutcome k o)
 stop-map {B = B} {D = D} f g h k same t x o e = one t ∙ ap (mapOutcome f) e ∙ two o

@@ -10,8 +10,9 @@ use mir.Facts.{toZ-ofZ}
 use Rattle.bitstream.specs.Outcome.{value}
 use Rattle.bitstream.specs.Reading.{outcomeS}
 use Rattle.aps.specs.ScalingSyntax.{dcAt}
-use Rattle.aps.proofs.Bounds.{ends-at}
-use Rattle.aps.proofs.ScalingSteps.{Small, given, dc-small, dc-refused, coefficients-stored, stop-ends}
+use Rattle.aps.proofs.Bounds.{ends-at, stop-ends}
+use Rattle.aps.proofs.Gives.{given}
+use Rattle.aps.proofs.ScalingSteps.{Small, dc-small, dc-refused, coefficients-stored}
 use Rattle.aps.proofs.scaling_list.read_coefficients.Statement.{statement}
 use Rattle.aps.proofs.scaling_list.read_coefficients.Tie as tie
 

@@ -10,9 +10,9 @@ use Rattle.bitstream.specs.Outcome.{value}
 use Rattle.bitstream.specs.Reading.{outcomeU}
 use Rattle.aps.specs.Elements.{flag}
 use Rattle.aps.specs.ScalingSyntax.{deltaAt}
-use Rattle.aps.proofs.Bounds.{ends-at}
+use Rattle.aps.proofs.Bounds.{ends-at, stop-ends}
 use Rattle.aps.proofs.Steps.{flag-read}
-use Rattle.aps.proofs.ScalingSteps.{copy-refused, copy-value, delta-refused, entry-stored, stop-ends}
+use Rattle.aps.proofs.ScalingSteps.{copy-refused, copy-value, delta-refused, entry-stored}
 use borrow.Author.Needs.{needs}
 use Rattle.aps.proofs.scaling_list.read_entry.Statement.{statement}
 use Rattle.aps.proofs.scaling_list.read_entry.Tie as tie

@@ -1,11 +1,13 @@
 -- `read_scaling`: the loop's arrays are what is kept of the ids before `id`.
 use borrow.Author.Needs.{needs}
-use mathlib.Core.Path.{sym, ap, _∙_}
+use mathlib.Core.Path.{_≡_, sym, ap, _∙_}
 use Prim.Native.Nat.{_-_}
 use native.Mathlib.Omega.{arith}
+use denote.Ref.{now}
 use mir.Syntax.{w32}
 use mir.Facts.{toZ-ofZ}
-use Rattle.aps.specs.ScalingSyntax.{Entry}
+use Rattle.bitstream.specs.Outcome.{mapOutcome}
+use Rattle.aps.specs.ScalingSyntax.{Entry, idAt, stored}
 use Rattle.aps.specs.Reading.{outcomeStop}
 use Rattle.aps.specs.declared.fields.Stop.{Stop}
 use Rattle.aps.proofs.Bounds.{ends-at}
@@ -33,6 +35,12 @@ entry c =
     let r = c .read-id .result in
     (r .copy, (r .pred, (r .delta, (r .dc, c .read-id .last .1 .1 .1 .1 .0))))
 
+stored-entry : (c : tie.After-read-id Inv-loop μ-loop) → outcomeStop {A = Entry} (c .read-id .result .stop) (entry c)
+    ≡ mapOutcome (stored (c .before .before .before .loop .list) (c .before .before .before .loop .id))
+    ((idAt (c .before .before .before .before .before .args .chroma) (c .before .before .before .loop .id)) .read
+    (now (c .before .before .before .before .before .args .bytes)) (c .before .before .before .loop .at))
+stored-entry c = c .read-id .ensures .0
+
 enum-known-stop : tie.Need-enum-known-stop Inv-loop μ-loop
 enum-known-stop c = search needs
 
@@ -46,7 +54,7 @@ returns : tie.Need-returns Inv-loop μ-loop
 returns c =
     let r = c .before .before .before .before in
     let l = r .before .before .before in
-    let e = sym (ap (λ (t : Stop). outcomeStop {A = Entry} t (entry r)) (c .before .before .stop2 .given .1)) ∙ r .read-id .ensures .0 in
+    let e = sym (ap (λ (t : Stop). outcomeStop {A = Entry} t (entry r)) (c .before .before .stop2 .given .1)) ∙ stored-entry r in
     (keeping-refused _ _ _ _ _ _ _ _ _ _ (l .loop .inv) _ (r .before .before .loop-test .taken) e, tt)
 
 array-write-copy : tie.Need-array-write-copy Inv-loop μ-loop
@@ -77,7 +85,7 @@ loop-again c =
     let same = ap (λ (t : Stop). outcomeStop {A = Entry} t (entry r)) (c .before .before .before .before .stop .given .1) in
     let f = toZ-ofZ {w = w32} {z = r .read-id .result .dc} (record { sfits = c .before .struct-told .given .1 .1 .1 .1 .0 .1 }) in
     rw (c .store-dc .ensures, f)
-    (keeping-more _ _ _ _ _ _ _ _ _ _ (l .loop .inv) (entry r) _ (r .before .before .loop-test .taken) (sym same ∙ r .read-id .ensures .0) (ends-at _ same (r .read-id .ensures .1)))
+    (keeping-more _ _ _ _ _ _ _ _ _ _ (l .loop .inv) (entry r) _ (r .before .before .loop-test .taken) (sym same ∙ stored-entry r) (ends-at _ same (r .read-id .ensures .1)))
 
 returns-2 : tie.Need-returns-2 Inv-loop μ-loop
 returns-2 c =

@@ -11,7 +11,8 @@ use Rattle.bitstream.specs.Outcome.{value}
 use Rattle.bitstream.specs.Reading.{outcomeS}
 use Rattle.aps.proofs.Bounds.{ends-at}
 use Rattle.aps.proofs.SignedLaws.{abs-fits, add-abs}
-use Rattle.aps.proofs.ScalingSteps.{se8, Small, given, se8-small, step-skip, step-refused, step-value}
+use Rattle.aps.proofs.Gives.{given}
+use Rattle.aps.proofs.ScalingSteps.{se8, Small, se8-small, step-skip, step-refused, step-value}
 use Rattle.aps.proofs.scaling_list.read_step.Statement.{statement}
 use Rattle.aps.proofs.scaling_list.read_step.Tie as tie
 

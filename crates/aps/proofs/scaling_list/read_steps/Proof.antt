@@ -3,10 +3,12 @@ use borrow.Author.Needs.{needs}
 use mathlib.Core.Path.{_≡_, sym, ap, _∙_}
 use Prim.Native.Nat.{_≤_, _-_}
 use native.Mathlib.Omega.{arith}
+use denote.Ref.{now}
 use mir.Syntax.{w32}
 use mir.Val.{toZ, ofZ}
 use mir.Facts.{toZ-ofZ}
 use Rattle.bitstream.specs.Reading.{outcomeS}
+use Rattle.aps.specs.ScalingSyntax.{stepAt}
 use Rattle.aps.proofs.Bounds.{ends-at}
 use Rattle.aps.proofs.ScalingSteps.{entries-le, Stepping, stepping-start, stepping-more, stepping-refused, stepping-done}
 use Rattle.aps.proofs.scaling_list.read_steps.Statement.{statement}
@@ -37,6 +39,12 @@ read-step-requires c κs =
     let k = few (c .before .before) in
     (c .before .before .before .before .pre .0, omega (arith, o .inv .near), omega arith, omega (arith, o .inv .small))
 
+-- what the step reads
+stepped : (c : tie.After-read-step Inv-loop μ-loop) → outcomeS (c .read-step .result)
+    ≡ (stepAt (c .before .before .before .before .before .args .id) (c .before .before .loop .i) (toZ w32 (c .before .before .loop .sum))) .read
+    (now (c .before .before .before .before .before .args .bytes)) (c .before .before .loop .at)
+stepped c = c .read-step .ensures .0
+
 enum-known-field : tie.Need-enum-known-field Inv-loop μ-loop
 enum-known-field c = search needs
 
@@ -59,7 +67,7 @@ returns : tie.Need-returns Inv-loop μ-loop
 returns c =
     let r = c .before .before .before in
     let l = r .before .before in
-    let e = sym (r .read-step .ensures .0) ∙ ap outcomeS (c .before .field2 .given .1) in
+    let e = sym (stepped r) ∙ ap outcomeS (c .before .field2 .given .1) in
     (rw (← l .before .matrix-entries .ensures, ← dc-is (l .before .before .before)) (stepping-refused _ _ _ _ _ _ _ _ _ _ (l .loop .inv) (r .before .loop-test .taken) e), tt)
 
 add-i : tie.Need-add-i Inv-loop μ-loop
@@ -72,7 +80,7 @@ loop-again : tie.Need-loop-again Inv-loop μ-loop
 loop-again c =
     let r = c .before .before .before in
     let l = r .before .before in
-    let e = sym (r .read-step .ensures .0) ∙ ap outcomeS (c .before .field .given .1) in
+    let e = sym (stepped r) ∙ ap outcomeS (c .before .field .given .1) in
     let f = toZ-ofZ {w = w32} {z = c .before .field .given .0 .0} (record { sfits = c .known-told .given .0 .1 }) in
     rw f
     (stepping-more _ _ _ _ _ _ _ _ _ _ (l .loop .inv) _ _ (r .before .loop-test .taken) e

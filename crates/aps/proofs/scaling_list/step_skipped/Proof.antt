@@ -2,9 +2,9 @@
 use borrow.Author.Needs.{needs}
 use borrow.Author.Tests.{lt-ltb, le-ltb}
 use mathlib.Core.Path.{_≡_, refl, sym}
-use mathlib.Core.Bool.{Bool, true, false, cond, not, _&&_}
+use mathlib.Core.Bool.{Bool, true, false, cond, not}
 use Prim.Native.Nat.{ℕ, _/_, _%_, _^_, _<_}
-use lib.Dec.{leb, eqb}
+use lib.Dec.{eqb}
 use Rattle.aps.specs.ScalingSyntax.{diagNext, diagScan, skipped}
 use Rattle.aps.proofs.Below.{below-rule}
 use Rattle.aps.proofs.scaling_list.step_skipped.Statement.{statement}
@@ -22,12 +22,9 @@ same-true false false e = refl
 abbrev bit : ℕ → Bool
 bit i = eqb (18436717077420048384 / 2 ^ i % 2) 1
 
-abbrev inCorner : ℕ → Bool
-inCorner i = leb 4 (diagScan i .0) && leb 4 (diagScan i .1)
-
-rule : (i : ℕ) → i < 64 → bit i ≡ inCorner i
-unfolding diagNext diagScan
-rule i h = same-true (bit i) (inCorner i) (below-rule (λ k. same (bit k) (inCorner k)) 64 refl i h)
+rule : (i : ℕ) → i < 64 → bit i ≡ skipped 26 i
+unfolding diagNext diagScan skipped
+rule i h = same-true (bit i) (skipped 26 i) (below-rule (λ k. same (bit k) (skipped 26 k)) 64 refl i h)
 
 shr-result : tie.Need-shr-result
 shr-result c = search needs
