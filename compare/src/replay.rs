@@ -23,26 +23,11 @@ pub fn print_sample() {
 pub fn print_answers() {
     for case in sample() {
         let answer = match expected::sets::parse_rbsp(&case.rbsp) {
-            Ok((numbers, end)) => format!("bit {end}{}", runs(&numbers)),
+            Ok((numbers, end)) => format!("bit {end}{numbers:?}"),
             Err(e) => format!("refused {e}"),
         };
         println!("{}: {answer}", case.name);
     }
-}
-
-fn runs(numbers: &[i64]) -> String {
-    let mut out = String::new();
-    let mut before = 0;
-    for (i, &n) in numbers.iter().enumerate() {
-        if n != 0 && before == 0 {
-            out += &format!(" [{i}]");
-        }
-        if n != 0 {
-            out += &format!(" {n}");
-        }
-        before = n;
-    }
-    out
 }
 
 fn sample() -> Vec<Case> {

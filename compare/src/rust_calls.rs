@@ -2,7 +2,6 @@
 
 use crate::bit_reader::BitReader;
 use crate::bit_writer::BitWriter;
-use crate::expected;
 use crate::h266::aps;
 use crate::nal;
 
@@ -73,14 +72,4 @@ pub extern "C" fn rbsp_to_ebsp(src: *const u8, len: usize, out: &mut Vec<u8>) ->
 pub extern "C" fn rbsp_end(bytes: *const u8, len: usize) -> u32 {
     let read = aps::parse_aps_rbsp(unsafe { std::slice::from_raw_parts(bytes, len) });
     std::hint::black_box(read).is_err().into()
-}
-
-#[inline(never)]
-pub extern "C" fn parse_rbsp(bytes: *const u8, len: usize, set: *mut i64) -> u32 {
-    let Ok(read) = aps::parse_aps_rbsp(unsafe { std::slice::from_raw_parts(bytes, len) }) else {
-        return 2;
-    };
-    let numbers = expected::sets::numbers(&read);
-    unsafe { std::ptr::copy_nonoverlapping(numbers.as_ptr(), set, numbers.len()) };
-    0
 }

@@ -45,9 +45,7 @@ pub fn measure() -> Vec<Time> {
         times.push(ebsp_to_rbsp(format!("ebsp_to_rbsp of 65,536 {kind} bytes"), &bytes));
         times.push(rbsp_to_ebsp(format!("rbsp_to_ebsp of 65,536 {kind} bytes"), &bytes));
     }
-    let inputs = sets::inputs();
-    times.extend(inputs.iter().map(|(name, bytes)| sets::read(name, bytes)));
-    times.extend(inputs.iter().map(|(name, bytes)| sets::numbers(name, bytes)));
+    times.extend(sets::inputs().iter().map(|(name, bytes)| sets::read(name, bytes)));
     times
 }
 

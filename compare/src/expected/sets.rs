@@ -3,7 +3,7 @@
 use super::{document, number};
 use crate::h266::aps::{self, VvcAlfCcFilters, VvcAlfData, VvcAps, VvcApsPayload, VvcLmcsData, VvcScalingListData};
 use crate::h266::{self, NAL_TYPE_PREFIX_APS, NAL_TYPE_SUFFIX_APS};
-use crate::library::sets::Answer;
+use crate::library::sets::{Answer, Numbers};
 use crate::nal;
 
 /// Rows one after another, filled up with zeros to `len` numbers.
@@ -70,7 +70,7 @@ fn scaling(d: &VvcScalingListData) -> Vec<i64> {
 }
 
 /// Kind, id, the two flags, then the three records, of which the other two are 0: `numbers` of crates/aps_c/specs/Numbers.antt.
-pub fn numbers(set: &VvcAps) -> Vec<i64> {
+fn numbers(set: &VvcAps) -> Numbers {
     let mut out = vec![
         set.aps_params_type.into(),
         set.aps_adaptation_parameter_set_id.into(),
@@ -83,12 +83,12 @@ pub fn numbers(set: &VvcAps) -> Vec<i64> {
         VvcApsPayload::ScalingList(d) => [vec![0; 1191 + 37], scaling(d)].concat(),
     };
     out.extend(payload);
-    out
+    Numbers(out)
 }
 
 /// The bit where reading ended, which the Rust keeps to itself. Each field has one code, so the set written again takes the bits that were
 /// read: with extension flag 0 whole bytes, and with flag 1 all before the stop bit, the last 1 of the set written with the flag cleared.
-pub fn end(set: &VvcAps) -> usize {
+fn end(set: &VvcAps) -> usize {
     let mut plain = set.clone();
     plain.aps_extension_flag = false;
     let bytes = aps::write_aps(&plain).expect("a set that was read is written");

@@ -15,8 +15,28 @@ pub mod raw {
     }
 }
 
+/// A set as its numbers; shown as those that are not 0, after the index of the first in a row.
+#[derive(PartialEq)]
+pub struct Numbers(pub Vec<i64>);
+
+impl std::fmt::Debug for Numbers {
+    fn fmt(&self, f: &mut std::fmt::Formatter<'_>) -> std::fmt::Result {
+        let mut before = 0;
+        for (i, &n) in self.0.iter().enumerate() {
+            if n != 0 && before == 0 {
+                write!(f, " [{i}]")?;
+            }
+            if n != 0 {
+                write!(f, " {n}")?;
+            }
+            before = n;
+        }
+        Ok(())
+    }
+}
+
 /// The numbers of a set and the bit where reading ended, or the refusal's number.
-pub type Answer = Result<(Vec<i64>, usize), u32>;
+pub type Answer = Result<(Numbers, usize), u32>;
 
 /// The arrays that are lent, marked before each call; the last number stands past the array's end.
 pub struct Lent {
@@ -40,7 +60,7 @@ impl Lent {
         if code != 0 || set.pop() != Some(MARK as i64) {
             return Err(ARRAY_CHANGED + code);
         }
-        Ok((set, end as usize))
+        Ok((Numbers(set), end as usize))
     }
 
     pub fn parse_rbsp(&mut self, bytes: &[u8]) -> Answer {

@@ -1,12 +1,11 @@
-//! Sets read from RBSPs: the Rust makes its records, the library its own; and both hand the set over as numbers.
+//! Sets read from RBSPs: the Rust makes its records, the library its own.
 
 use std::hint::black_box;
 use std::time::Instant;
 
 use super::{time, Run, Time};
-use crate::expected;
 use crate::h266::aps::{self, parse_aps_rbsp};
-use crate::library::sets::{raw, NUMBERS};
+use crate::library::sets::raw;
 use crate::random::Random;
 use crate::rust_calls;
 use crate::sets::make::{Maker, Style};
@@ -60,31 +59,6 @@ pub fn read(name: &str, bytes: &[u8]) -> Time {
                 let mut end = 0;
                 let end: *mut u64 = &mut end;
                 calls(bytes, |b| unsafe { raw::aps_rbsp_end(b.as_ptr(), b.len(), end).into() })
-            },
-        ],
-    )
-}
-
-/// The set read and handed over as numbers.
-pub fn numbers(name: &str, bytes: &[u8]) -> Time {
-    let mut set = vec![0; NUMBERS];
-    let mut end = 0;
-    let (set, end): (*mut i64, *mut u64) = (set.as_mut_ptr(), &mut end);
-    let rust = black_box(rust_calls::parse_rbsp as extern "C" fn(*const u8, usize, *mut i64) -> u32);
-    time(
-        format!("{name}, as numbers"),
-        [
-            &mut || {
-                calls(bytes, |b| {
-                    let numbers = parse_aps_rbsp(b).map(|set| expected::sets::numbers(&set));
-                    black_box(numbers).is_err().into()
-                })
-            },
-            &mut || calls(bytes, |b| rust(b.as_ptr(), b.len(), set).into()),
-            &mut || {
-                calls(bytes, |b| unsafe {
-                    raw::aps_parse_rbsp(b.as_ptr(), b.len(), set, end).into()
-                })
             },
         ],
     )

@@ -26,14 +26,12 @@ put-cc-requires-2 c κs = search needs
 
 returns : tie.Need-returns
 unfolding alfNumbers
-returns c = (
-  put-then (put-then (put-then (put-then (c .before .before .before .before .before .before .before .before .put-bool .ensures .0)
-      (c .before .before .before .before .before .before .put-luma .ensures .0))
-      (c .before .before .before .before .put-chroma .ensures .0))
-      (c .before .before .put-cc .ensures .0))
-      (c .put-cc2 .ensures .0),
-  omega arith,
-)
+returns c =
+    let fourth = c .before .before in
+    let third = fourth .before .before in
+    let second = third .before .before in
+    let first = second .before .before in
+    (put-then (put-then (put-then (put-then (first .put-bool .ensures .0) (second .put-luma .ensures .0)) (third .put-chroma .ensures .0)) (fourth .put-cc .ensures .0)) (c .put-cc2 .ensures .0), omega arith)
 
 pub put-alf-spec : {M : Type 1} → statement M
 put-alf-spec =

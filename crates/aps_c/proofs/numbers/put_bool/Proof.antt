@@ -12,9 +12,6 @@ use Rattle.aps_c.specs.Numbers.{flagNumber, flags}
 use Rattle.aps_c.proofs.PutLaws.{Copied, copy-more, copy-done, flag-small}
 use Rattle.aps_c.proofs.numbers.put_bool.Statement.{statement}
 use Rattle.aps_c.proofs.numbers.put_bool.Tie as tie
-use Rattle.aps_c.proofs.numbers.put_bool.Reads as reads
-use Rattle.aps_c.proofs.numbers.put_bool.Lts as lts
-use Rattle.aps_c.proofs.numbers.flag_number.Reads as flag-number-reads
 
 abbrev Inv-loop : tie.InvT-loop
 Inv-loop src out₀ from i₀ out i = (i ≤ length src) × Copied (λ (b : Bool). pos (flagNumber b)) src out₀ from i out

@@ -26,12 +26,10 @@ put-bool-requires c κs = omega (arith, slice-aggregate-put-u8 (c .before .befor
 
 returns : tie.Need-returns
 unfolding ccNumbers
-returns c = (
-  put-then (put-then (c .before .before .before .before .before .before .put-u32 .ensures .0)
-      (c .before .before .before .put-u8 .ensures .0))
-      (c .put-bool .ensures .0),
-  omega (arith, slice-aggregate-put-u8 (c .before .before .before .before .before), slice-aggregate-put-bool (c .before .before)),
-)
+returns c =
+    let second = c .before .before .before in
+    let first = second .before .before .before in
+    (put-then (put-then (first .put-u32 .ensures .0) (second .put-u8 .ensures .0)) (c .put-bool .ensures .0), omega (arith, slice-aggregate-put-u8 (second .before .before), slice-aggregate-put-bool (c .before .before)))
 
 pub put-cc-spec : {M : Type 1} → statement M
 put-cc-spec =

@@ -35,13 +35,11 @@ put-u8-requires c κs = omega (arith, slice-aggregate-put-u32-2 (c .before .befo
 
 returns : tie.Need-returns
 unfolding chromaNumbers
-returns c = (
-  put-then (put-then (put-then (rw (c .before .before .before .before .before .before .before .before .before .before .before .before .before .before .before .flag-number .ensures) at (c .before .before .before .before .before .before .before .before .before .put-u32 .ensures .0))
-      (c .before .before .before .before .before .before .put-u322 .ensures .0))
-      (c .before .before .before .put-bool .ensures .0))
-      (c .put-u8 .ensures .0),
-  omega (arith, slice-aggregate-put-u32-2 (c .before .before .before .before .before .before .before .before), slice-aggregate-put-bool (c .before .before .before .before .before), slice-aggregate-put-u8 (c .before .before)),
-)
+returns c =
+    let third = c .before .before .before in
+    let second = third .before .before .before in
+    let first = second .before .before .before in
+    (put-then (put-then (put-then (rw (first .before .before .before .before .before .before .flag-number .ensures) at (first .put-u32 .ensures .0)) (second .put-u322 .ensures .0)) (third .put-bool .ensures .0)) (c .put-u8 .ensures .0), omega (arith, slice-aggregate-put-u32-2 (second .before .before), slice-aggregate-put-bool (third .before .before), slice-aggregate-put-u8 (c .before .before)))
 
 pub put-chroma-spec : {M : Type 1} → statement M
 put-chroma-spec =

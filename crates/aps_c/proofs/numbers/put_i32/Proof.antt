@@ -12,8 +12,6 @@ use Rattle.bitstream.proofs.Signed.{wide, wide-is}
 use Rattle.aps_c.proofs.PutLaws.{Copied, copy-more, copy-done, map-same}
 use Rattle.aps_c.proofs.numbers.put_i32.Statement.{statement}
 use Rattle.aps_c.proofs.numbers.put_i32.Tie as tie
-use Rattle.aps_c.proofs.numbers.put_i32.Reads as reads
-use Rattle.aps_c.proofs.numbers.put_i32.Lts as lts
 
 abbrev Inv-loop : tie.InvT-loop
 Inv-loop src out₀ from i₀ out i = (i ≤ length src) × Copied (λ (z : ℤ). z) src out₀ from i out

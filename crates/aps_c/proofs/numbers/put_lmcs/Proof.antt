@@ -38,13 +38,11 @@ put-u32-requires-3 c κs = omega (arith, slice-aggregate-put-u32-2 (c .before .b
 
 returns : tie.Need-returns
 unfolding lmcsNumbers
-returns c = (
-  put-then (put-then (put-then (c .before .before .before .before .before .before .before .before .before .put-u32 .ensures .0)
-      (c .before .before .before .before .before .before .put-u322 .ensures .0))
-      (c .before .before .before .put-bool .ensures .0))
-      (rw (c .before .before .before .before .before .before .before .before .before .before .before .before .flag-number .ensures) at (c .put-u323 .ensures .0)),
-  omega (arith, slice-aggregate-put-u32-2 (c .before .before .before .before .before .before .before .before), slice-aggregate-put-bool (c .before .before .before .before .before)),
-)
+returns c =
+    let third = c .before .before .before in
+    let second = third .before .before .before in
+    let first = second .before .before .before in
+    (put-then (put-then (put-then (first .put-u32 .ensures .0) (second .put-u322 .ensures .0)) (third .put-bool .ensures .0)) (rw (first .before .before .before .flag-number .ensures) at (c .put-u323 .ensures .0)), omega (arith, slice-aggregate-put-u32-2 (second .before .before), slice-aggregate-put-bool (third .before .before)))
 
 pub put-lmcs-spec : {M : Type 1} → statement M
 put-lmcs-spec =

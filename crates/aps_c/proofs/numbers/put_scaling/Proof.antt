@@ -39,11 +39,11 @@ put-i32-requires-2 c κs = omega (arith, slice-aggregate-put-bool (c .before .be
 returns : tie.Need-returns
 unfolding scalingNumbers
 returns c =
-    put-then (put-then (put-then (put-then (c .before .before .before .before .before .before .before .before .before .before .before .before .put-bool .ensures .0)
-    (c .before .before .before .before .before .before .before .before .before .put-bool2 .ensures .0))
-    (c .before .before .before .before .before .before .put-u32 .ensures .0))
-    (c .before .before .before .put-i32 .ensures .0))
-    (c .put-i322 .ensures .0)
+    let fourth = c .before .before .before in
+    let third = fourth .before .before .before in
+    let second = third .before .before .before in
+    let first = second .before .before .before in
+    put-then (put-then (put-then (put-then (first .put-bool .ensures .0) (second .put-bool2 .ensures .0)) (third .put-u32 .ensures .0)) (fourth .put-i32 .ensures .0)) (c .put-i322 .ensures .0)
 
 pub put-scaling-spec : {M : Type 1} → statement M
 put-scaling-spec =

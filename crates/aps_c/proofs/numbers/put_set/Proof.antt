@@ -36,10 +36,10 @@ put-scaling-requires c κs = search needs
 returns : tie.Need-returns
 unfolding numbers
 returns c =
-    put-then (put-then (put-then (rw (c .before .before .before .before .before .before .before .before .before .before .before .before .kind-number .ensures, c .before .before .before .before .before .before .before .before .before .before .flag-number .ensures, c .before .before .before .before .before .before .before .before .before .flag-number2 .ensures) at (c .before .before .before .before .before .before .put-u32 .ensures .0))
-    (c .before .before .before .before .put-alf .ensures .0))
-    (c .before .before .put-lmcs .ensures .0))
-    (c .put-scaling .ensures)
+    let third = c .before .before in
+    let second = third .before .before in
+    let first = second .before .before in
+    put-then (put-then (put-then (rw (first .before .before .before .before .before .before .kind-number .ensures, first .before .before .before .before .flag-number .ensures, first .before .before .before .flag-number2 .ensures) at (first .put-u32 .ensures .0)) (second .put-alf .ensures .0)) (third .put-lmcs .ensures .0)) (c .put-scaling .ensures)
 
 pub put-set-spec : {M : Type 1} → statement M
 put-set-spec =

@@ -10,8 +10,6 @@ use Rattle.aps_c.specs.Numbers.{naturals}
 use Rattle.aps_c.proofs.PutLaws.{Copied, copy-more, copy-done}
 use Rattle.aps_c.proofs.numbers.put_u8.Statement.{statement}
 use Rattle.aps_c.proofs.numbers.put_u8.Tie as tie
-use Rattle.aps_c.proofs.numbers.put_u8.Reads as reads
-use Rattle.aps_c.proofs.numbers.put_u8.Lts as lts
 
 abbrev Inv-loop : tie.InvT-loop
 Inv-loop src out₀ from i₀ out i = (i ≤ length src) × Copied pos src out₀ from i out
