@@ -61,27 +61,28 @@ pub struct VvcAlfData {
     pub cc_cr: VvcAlfCcFilters,
 }
 
-// What reading the luma filters, the chroma filters, those of Cb or Cr, and the whole gives; a refusal's record is not said.
+// What reading gives; the record is given with a stop that is an end.
 pub(crate) struct LumaRead {
-    stop: Stop,
-    luma: VvcAlfLuma,
+    pub(crate) stop: Stop,
+    pub(crate) luma: VvcAlfLuma,
 }
 
 pub(crate) struct ChromaRead {
-    stop: Stop,
-    chroma: VvcAlfChroma,
+    pub(crate) stop: Stop,
+    pub(crate) chroma: VvcAlfChroma,
 }
 
 pub(crate) struct CcRead {
-    stop: Stop,
-    cc: VvcAlfCcFilters,
+    pub(crate) stop: Stop,
+    pub(crate) cc: VvcAlfCcFilters,
 }
 
 pub(crate) struct AlfRead {
-    stop: Stop,
-    alf: VvcAlfData,
+    pub(crate) stop: Stop,
+    pub(crate) alf: VvcAlfData,
 }
 
+// What is inferred where nothing is sent.
 pub(crate) fn no_luma() -> VvcAlfLuma
     ensures { λ r. ⌜ r ≡ toLuma (noLuma .default) ⌝ }
 {

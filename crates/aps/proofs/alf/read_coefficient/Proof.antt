@@ -1,9 +1,12 @@
 -- `read_coefficient`: a sign is read after a magnitude that is taken and is not 0.
 use borrow.Author.Needs.{needs}
 use borrow.Author.Tests.{ne-eqb}
-use mathlib.Core.Path.{sym, ap, _∙_}
+use mathlib.Core.Path.{_≡_, sym, ap, _∙_}
 use native.Mathlib.Omega.{arith}
+use denote.Ref.{now}
+use Rattle.bitstream.specs.Outcome.{value}
 use Rattle.bitstream.specs.Reading.{outcomeU}
+use Rattle.aps.specs.Elements.{ueTo}
 use Rattle.aps.specs.AlfSyntax.{coefficient}
 use Rattle.aps.proofs.Steps.{signed-read, flag-read}
 use Rattle.aps.proofs.alf.read_coefficient.Statement.{statement}
@@ -19,8 +22,9 @@ returns : tie.Need-returns
 unfolding coefficient
 returns c =
     let k = c .before .before .before .before .read-ue-to in
+    let a = c .before .before .before .before .before .before .args in
     let f = c .before .before .magnitude .given in
-    let e = sym (k .ensures .0) ∙ ap outcomeU (f .1) in
+    let e : (ueTo 128) .read (now (a .bytes)) (a .p) ≡ value (f .0 .0) (f .0 .1 .0 .«bit_pos») = sym (k .ensures .0) ∙ ap outcomeU (f .1) in
     let z = c .if1 .taken in
     (rw (signed-read, e, z), omega (arith, rw (f .1) at (k .ensures .1)))
 
