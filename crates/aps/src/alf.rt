@@ -170,6 +170,8 @@ pub(crate) fn read_coefficient(bytes: &[u8], p: usize) -> SignedField
     match magnitude {
         FieldU::Value(abs, r) => {
             let q = r.bit_pos;
+            // Looked at before it is known to be sent: no bit is taken, and no branch has to be foretold.
+            let sign = read_flag(bytes, q);
             if abs == 0 {
                 return SignedField::Value {
                     abs: 0,
@@ -179,7 +181,7 @@ pub(crate) fn read_coefficient(bytes: &[u8], p: usize) -> SignedField
             }
             SignedField::Value {
                 abs,
-                sign: read_flag(bytes, q),
+                sign,
                 next: q + 1,
             }
         }
