@@ -7,7 +7,8 @@ use native.Mathlib.Omega.{arith}
 use borrow.Author.Tests.{le-leb, lt-leb, le-ltb, lt-ltb}
 use lib.Dec.{leb, eqb}
 use lib.ListN.{length}
-use Rattle.bitstream.specs.Outcome.{Outcome, value, refused, mapOutcome, _then_}
+use Rattle.bitstream.specs.Outcome.{Outcome, value, refused, number, mapOutcome, _then_}
+use Rattle.bitstream.specs.declared.Refusal.{Refusal}
 use Rattle.bitstream.specs.Bits.{fieldAt}
 use Rattle.bitstream.specs.Fields.{readU}
 use Rattle.aps.specs.Codec.{Codec, u, _▷_, via, judged, provided, never}
@@ -22,6 +23,11 @@ use Rattle.aps.specs.declared.lmcs.VvcLmcsData.{VvcLmcsData}
 use Rattle.aps.specs.declared.scaling_list.VvcScalingListData.{VvcScalingListData}
 use Rattle.aps.specs.declared.aps.ApsKind.{ApsKind}
 use Rattle.aps.specs.declared.aps.VvcAps.{VvcAps}
+use Rattle.aps.specs.declared.aps.ApsOutcome.{ApsOutcome}
+use Rattle.aps.specs.declared.aps.ApsOutcome.the-variants as Aps
+use Rattle.aps.specs.Reading.{outcomeRead, setGiven}
+use Rattle.aps.proofs.Answers.{answered}
+use Rattle.aps.proofs.Steps.{flag-read}
 
 -- a set of each kind with extension flag 0
 abbrev pub setOf : ApsKind → ℕ → Bool → VvcAlfData → VvcLmcsData → VvcScalingListData → VvcAps
@@ -141,6 +147,20 @@ module _ (s : List ℕ) (id : ℕ) (chroma : Bool) where
       go (suc zero) h = absurd (omega arith)
       go (suc (suc zero)) h = absurd (omega arith)
       go (suc (suc (suc k))) h = never-read k id chroma s
+
+-- ---- how a set ends
+
+module _ (s : List ℕ) (a : VvcAps) (p : ℕ) (x : Bool) (end : ApsOutcome) (h : x ≡ not (eqb (fieldAt s p 1) 0))
+  (f : (b : VvcAps) → b .«aps_extension_flag» ≡ x → outcomeRead end b ≡ closed s b (p + 1)) {o : Outcome VvcAps} (g : o ≡ finished s a p) where
+  ended : outcomeRead end (withExtension a x) ≡ o
+  unfolding finished withExtension
+  ended = rw (g, flag-read, ← h) (f (withExtension a x) refl)
+
+  pub set-ended : (q : ℕ) → end ≡ Aps.Read q → (value (withExtension a x) q ≡ o) × (withExtension a x ≡ setGiven o)
+  set-ended q e = let k = sym (answered (λ r. outcomeRead r (withExtension a x)) e ended) in (k, ap setGiven k)
+
+  pub set-refused : (why : Refusal) → end ≡ Aps.Refused why → o ≡ refused (number why)
+  set-refused why e = answered (λ r. outcomeRead r (withExtension a x)) e ended
 
 -- ---- the limit of the call
 

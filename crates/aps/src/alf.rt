@@ -61,20 +61,20 @@ pub struct VvcAlfData {
     pub cc_cr: VvcAlfCcFilters,
 }
 
-// What reading the luma filters, the chroma filters, those of Cb or Cr, and the whole gives; a refusal's record is not said.
+// What reading gives; the record is given with a stop that is an end.
 pub(crate) struct LumaRead {
-    stop: Stop,
-    luma: VvcAlfLuma,
+    pub(crate) stop: Stop,
+    pub(crate) luma: VvcAlfLuma,
 }
 
 pub(crate) struct ChromaRead {
-    stop: Stop,
-    chroma: VvcAlfChroma,
+    pub(crate) stop: Stop,
+    pub(crate) chroma: VvcAlfChroma,
 }
 
 pub(crate) struct CcRead {
-    stop: Stop,
-    cc: VvcAlfCcFilters,
+    pub(crate) stop: Stop,
+    pub(crate) cc: VvcAlfCcFilters,
 }
 
 pub(crate) struct AlfRead {
@@ -82,6 +82,7 @@ pub(crate) struct AlfRead {
     pub(crate) alf: VvcAlfData,
 }
 
+// What is inferred where nothing is sent.
 pub(crate) fn no_luma() -> VvcAlfLuma
     ensures { λ r. ⌜ r ≡ toLuma (noLuma .default) ⌝ }
 {
@@ -169,6 +170,8 @@ pub(crate) fn read_coefficient(bytes: &[u8], p: usize) -> SignedField
     match magnitude {
         FieldU::Value(abs, r) => {
             let q = r.bit_pos;
+            // Looked at before it is known to be sent: no bit is taken, and no branch has to be foretold.
+            let sign = read_flag(bytes, q);
             if abs == 0 {
                 return SignedField::Value {
                     abs: 0,
@@ -178,7 +181,7 @@ pub(crate) fn read_coefficient(bytes: &[u8], p: usize) -> SignedField
             }
             SignedField::Value {
                 abs,
-                sign: read_flag(bytes, q),
+                sign,
                 next: q + 1,
             }
         }

@@ -23,7 +23,7 @@ ghost use mathlib.Core.Path.{_≡_};
 ghost use Prim.Native.Nat.{_-_, _≤_};
 ghost use lib.ListN.{length, drop};
 ghost use mathlib.Core.List.{_++_};
-ghost use Rattle.aps.specs.Rbsp.{closed, finished, readRbsp, parseApsRbsp, Headed};
+ghost use Rattle.aps.specs.Rbsp.{closed, readRbsp, parseApsRbsp, Headed};
 ghost use Rattle.aps.specs.Unit.{isAps, rbspOf, outcomeJ, judgedUnit, parseAps, workAfter};
 ghost use Rattle.aps.specs.ApsSyntax.{emptySet};
 ghost use Rattle.aps.specs.Reading.{outcomeRead, outcomeAps, setGiven};
@@ -122,27 +122,6 @@ fn read_end(bytes: &[u8], p: usize, extension: bool) -> ApsOutcome
     }
 }
 
-// The extension flag and what closes the RBSP.
-fn ending(bytes: &[u8], p: usize, set: VvcAps) -> ApsReading
-    requires { ⌜ (length (now bytes) ≤ 65536) × (p ≤ 300000) ⌝ }
-    ensures answer { λ r. ⌜ outcomeAps r ≡ finished (now (bytes .entry)) set p ⌝ }
-    ensures set { λ r. ⌜ r .set ≡ setGiven (finished (now (bytes .entry)) set p) ⌝ }
-{
-    let extension = read_flag(bytes, p);
-    let outcome = read_end(bytes, p + 1, extension);
-    match outcome {
-        ApsOutcome::Read(q) => {
-            let mut whole = set;
-            whole.aps_extension_flag = extension;
-            ApsReading {
-                outcome: ApsOutcome::Read(q),
-                set: whole,
-            }
-        }
-        ApsOutcome::Refused(why) => refuse(why),
-    }
-}
-
 // An LMCS set: its id is judged before its payload.
 fn lmcs_set(bytes: &[u8], id: u8, chroma: bool) -> ApsReading
     requires { ⌜ (length (now bytes) ≤ 65536) × Headed (now bytes) 1 id chroma ⌝ }
@@ -156,19 +135,25 @@ fn lmcs_set(bytes: &[u8], id: u8, chroma: bool) -> ApsReading
     let stop = read.stop;
     let lmcs = read.lmcs;
     match stop {
-        Stop::End(q) => ending(
-            bytes,
-            q,
-            VvcAps {
-                kind: ApsKind::Lmcs,
-                aps_adaptation_parameter_set_id: id,
-                aps_chroma_present_flag: chroma,
-                aps_extension_flag: false,
-                alf: zero_alf(),
-                lmcs,
-                scaling: zero_scaling(),
-            },
-        ),
+        Stop::End(q) => {
+            let extension = read_flag(bytes, q);
+            let end = read_end(bytes, q + 1, extension);
+            match end {
+                ApsOutcome::Read(at) => ApsReading {
+                    outcome: ApsOutcome::Read(at),
+                    set: VvcAps {
+                        kind: ApsKind::Lmcs,
+                        aps_adaptation_parameter_set_id: id,
+                        aps_chroma_present_flag: chroma,
+                        aps_extension_flag: extension,
+                        alf: zero_alf(),
+                        lmcs,
+                        scaling: zero_scaling(),
+                    },
+                },
+                ApsOutcome::Refused(why) => refuse(why),
+            }
+        }
         Stop::Refused(why) => refuse(why),
     }
 }
@@ -187,19 +172,23 @@ fn alf_set(bytes: &[u8], id: u8, chroma: bool) -> ApsReading
             if Alf::MAX_ID < id {
                 return refuse(Refusal::InvalidData);
             }
-            ending(
-                bytes,
-                q,
-                VvcAps {
-                    kind: ApsKind::Alf,
-                    aps_adaptation_parameter_set_id: id,
-                    aps_chroma_present_flag: chroma,
-                    aps_extension_flag: false,
-                    alf,
-                    lmcs: zero_lmcs(),
-                    scaling: zero_scaling(),
+            let extension = read_flag(bytes, q);
+            let end = read_end(bytes, q + 1, extension);
+            match end {
+                ApsOutcome::Read(at) => ApsReading {
+                    outcome: ApsOutcome::Read(at),
+                    set: VvcAps {
+                        kind: ApsKind::Alf,
+                        aps_adaptation_parameter_set_id: id,
+                        aps_chroma_present_flag: chroma,
+                        aps_extension_flag: extension,
+                        alf,
+                        lmcs: zero_lmcs(),
+                        scaling: zero_scaling(),
+                    },
                 },
-            )
+                ApsOutcome::Refused(why) => refuse(why),
+            }
         }
         Stop::Refused(why) => refuse(why),
     }
@@ -219,19 +208,23 @@ fn scaling_set(bytes: &[u8], id: u8, chroma: bool) -> ApsReading
             if Scaling::MAX_ID < id {
                 return refuse(Refusal::InvalidData);
             }
-            ending(
-                bytes,
-                q,
-                VvcAps {
-                    kind: ApsKind::Scaling,
-                    aps_adaptation_parameter_set_id: id,
-                    aps_chroma_present_flag: chroma,
-                    aps_extension_flag: false,
-                    alf: zero_alf(),
-                    lmcs: zero_lmcs(),
-                    scaling,
+            let extension = read_flag(bytes, q);
+            let end = read_end(bytes, q + 1, extension);
+            match end {
+                ApsOutcome::Read(at) => ApsReading {
+                    outcome: ApsOutcome::Read(at),
+                    set: VvcAps {
+                        kind: ApsKind::Scaling,
+                        aps_adaptation_parameter_set_id: id,
+                        aps_chroma_present_flag: chroma,
+                        aps_extension_flag: extension,
+                        alf: zero_alf(),
+                        lmcs: zero_lmcs(),
+                        scaling,
+                    },
                 },
-            )
+                ApsOutcome::Refused(why) => refuse(why),
+            }
         }
         Stop::Refused(why) => refuse(why),
     }

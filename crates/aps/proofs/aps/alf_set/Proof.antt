@@ -6,11 +6,14 @@ use denote.Ref.{now}
 use native.Mathlib.Omega.{arith}
 use Rattle.bitstream.specs.Outcome.{value}
 use Rattle.aps.specs.AlfSyntax.{alf}
-use Rattle.aps.specs.Reading.{EndsBy, outcomeStop}
-use Rattle.aps.proofs.Answers.{answered, refused-answer, same-answer}
-use Rattle.aps.proofs.RbspSteps.{alf-refused, alf-id, alf-set}
+use Rattle.aps.specs.Reading.{outcomeStop}
 use Rattle.aps.proofs.aps.alf_set.Statement.{statement}
 use Rattle.aps.proofs.aps.alf_set.Tie as tie
+use Rattle.aps.specs.ApsSyntax.{zeroAlf, zeroLmcs, zeroScaling}
+use Rattle.aps.specs.Rbsp.{withExtension}
+use Rattle.aps.specs.declared.aps.ApsKind.{ApsKind}
+use Rattle.aps.proofs.Answers.{answered, refused-answer}
+use Rattle.aps.proofs.RbspSteps.{setOf, alf-refused, alf-id, alf-set, set-ended, set-refused}
 
 -- what the payload gave, and how far it reached
 taken : (c : tie.After-known-told)
@@ -36,34 +39,63 @@ returns c =
     let t = taken (c .before .before) in
     refused-answer (c .refuse .result) _ (c .refuse .ensures) (alf-id (now (b .args .bytes)) (b .args .id) (b .args .chroma) (b .pre .1) _ _ (t .0) (c .before .if1 .taken))
 
+read-flag-requires : tie.Need-read-flag-requires
+read-flag-requires c κs = (c .before .before .before .before .before .before .before .pre .0, omega (arith, taken (c .before) .1))
+
+add-read-end : tie.Need-add-read-end
+add-read-end c = omega (arith, taken (c .before .before) .1)
+
+read-end-requires : tie.Need-read-end-requires
+read-end-requires c κs = (c .before .before .before .before .before .before .before .before .pre .0, omega (arith, taken (c .before .before) .1))
+
+enum-known-end : tie.Need-enum-known-end
+enum-known-end c = search needs
+
 zero-lmcs-requires : tie.Need-zero-lmcs-requires
 zero-lmcs-requires c κs = search needs
 
 zero-scaling-requires : tie.Need-zero-scaling-requires
 zero-scaling-requires c κs = search needs
 
-ending-requires : tie.Need-ending-requires
-ending-requires c κs = (c .before .before .before .before .before .before .before .before .before .pre .0, omega (arith, taken (c .before .before .before) .1))
-
-enum-known-stop-2 : tie.Need-enum-known-stop-2
-enum-known-stop-2 c = search needs
+enum-known-end-2 : tie.Need-enum-known-end-2
+enum-known-end-2 c = search needs
 
 refuse-requires-2 : tie.Need-refuse-requires-2
 refuse-requires-2 c κs = search needs
 
+enum-known-stop-2 : tie.Need-enum-known-stop-2
+enum-known-stop-2 c = search needs
+
+refuse-requires-3 : tie.Need-refuse-requires-3
+refuse-requires-3 c κs = search needs
+
 returns-2 : tie.Need-returns-2
+unfolding withExtension
 returns-2 c =
-    let b = c .before .before .before .before .before .before .before .before .before .before in
-    let t = taken (c .before .before .before .before) in
-    same-answer (c .ending .result) (c .ending .ensures)
-    (rw (c .before .before .zero-lmcs .ensures, c .before .zero-scaling .ensures) (alf-set (now (b .args .bytes)) (b .args .id) (b .args .chroma) (b .pre .1) _ _ (t .0) (c .before .before .before .if1 .left)))
+    let b = c .before .before .before .before .before .before .before .before .before .before .before .before .before .before in
+    let k = c .before .before .before .before .before .before .before .before .before .before .before .before .read-alf in
+    let t = taken (c .before .before .before .before .before .before .before .before) in
+    let x = c .before .before .before .before .before .before .read-flag in
+    let r = c .before .before .before .before .before .read-end in
+    rw (c .before .zero-lmcs .ensures, c .zero-scaling .ensures)
+    (set-ended (now (b .args .bytes)) (setOf ApsKind.Alf (b .args .id) (b .args .chroma) (k .result .alf) zeroLmcs zeroScaling) _ (x .result) (r .result) (x .ensures) (r .ensures) (alf-set (now (b .args .bytes)) (b .args .id) (b .args .chroma) (b .pre .1) _ _ (t .0) (c .before .before .before .before .before .before .before .if1 .left)) _ (c .before .before .before .end .given .1))
 
 returns-3 : tie.Need-returns-3
 returns-3 c =
+    let b = c .before .before .before .before .before .before .before .before .before .before .before .before .before in
+    let k = c .before .before .before .before .before .before .before .before .before .before .before .read-alf in
+    let t = taken (c .before .before .before .before .before .before .before) in
+    let x = c .before .before .before .before .before .read-flag in
+    let r = c .before .before .before .before .read-end in
+    refused-answer (c .refuse2 .result) _ (c .refuse2 .ensures)
+    (set-refused (now (b .args .bytes)) (setOf ApsKind.Alf (b .args .id) (b .args .chroma) (k .result .alf) zeroLmcs zeroScaling) _ (x .result) (r .result) (x .ensures) (r .ensures) (alf-set (now (b .args .bytes)) (b .args .id) (b .args .chroma) (b .pre .1) _ _ (t .0) (c .before .before .before .before .before .before .if1 .left)) _ (c .before .before .end2 .given .1))
+
+returns-4 : tie.Need-returns-4
+returns-4 c =
     let b = c .before .before .before .before .before .before .before in
     let k = c .before .before .before .before .before .read-alf in
     let e = answered (λ st. outcomeStop st (k .result .alf)) (c .before .before .stop2 .given .1) (k .ensures .0) in
-    refused-answer (c .refuse2 .result) _ (c .refuse2 .ensures) (alf-refused (now (b .args .bytes)) (b .args .id) (b .args .chroma) (b .pre .1) _ e)
+    refused-answer (c .refuse3 .result) _ (c .refuse3 .ensures) (alf-refused (now (b .args .bytes)) (b .args .id) (b .args .chroma) (b .pre .1) _ e)
 
 pub alf-set-spec : {M : Type 1} → statement M
 alf-set-spec =
@@ -73,10 +105,16 @@ alf-set-spec =
     enum-known-stop
     refuse-requires
     returns
+    read-flag-requires
+    add-read-end
+    read-end-requires
+    enum-known-end
     zero-lmcs-requires
     zero-scaling-requires
-    ending-requires
-    enum-known-stop-2
+    enum-known-end-2
     refuse-requires-2
+    enum-known-stop-2
+    refuse-requires-3
     returns-2
-    returns-3)
+    returns-3
+    returns-4)
