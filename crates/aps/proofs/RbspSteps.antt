@@ -151,7 +151,7 @@ module _ (s : List ℕ) (id : ℕ) (chroma : Bool) where
 -- ---- how a set ends
 
 module _ (s : List ℕ) (a : VvcAps) (p : ℕ) (x : Bool) (end : ApsOutcome) (h : x ≡ not (eqb (fieldAt s p 1) 0))
-  (f : (b : VvcAps) → b .«aps_extension_flag» ≡ x → outcomeRead end b ≡ closed s b (p + 1)) {o : Outcome VvcAps} (g : o ≡ finished s a p) where
+    (f : (b : VvcAps) → b .«aps_extension_flag» ≡ x → outcomeRead end b ≡ closed s b (p + 1)) {o : Outcome VvcAps} (g : o ≡ finished s a p) where
   ended : outcomeRead end (withExtension a x) ≡ o
   unfolding finished withExtension
   ended = rw (g, flag-read, ← h) (f (withExtension a x) refl)
