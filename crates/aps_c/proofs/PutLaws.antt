@@ -1,11 +1,11 @@
 -- Numbers written into an array one after another.
-use Prim.Native.Nat.{ℕ, zero, suc, _+_, _<_, _≤_}
-use mathlib.Core.Path.{_≡_, refl, sym, ap, _∙_}
+use Prim.Native.Nat.{ℕ, suc, _+_, _<_, _≤_}
+use mathlib.Core.Path.{_≡_, refl, ap, _∙_}
 use mathlib.Core.Bool.{Bool, true, false}
 use mathlib.Core.List.{List, [], _∷_, _++_, map, map-append}
 use native.Mathlib.Omega.{arith}
 use native.Mathlib.Numerals.{add-one}
-use native.Mathlib.Nat.{add-zero, add-suc, suc-add}
+use native.Mathlib.Nat.{add-zero}
 use lib.IntN.{ℤ}
 use lib.ListN.{length, take, getD, set, length-append, length-map}
 use lib.Seq.{sets, take-suc, take-all, length-take-le}
@@ -29,7 +29,7 @@ put-then {before} {between} {after} {xs} {ys} {from} {mid} {next} p q =
     let h : sets between mid ys ≡ sets before from (xs ++ ys) = rw (p .holds, p .ends) (sets-append before from xs ys) in
     record { holds = q .holds ∙ h; ends = omega (arith, p .ends, q .ends, length-append xs ys) }
 
--- A loop that writes what f makes of each element: before it, one turn, and after it.
+-- A loop that writes what f makes of each element: where it stands, one turn, and after it.
 module _ {X : Type 0} (f : X → ℤ) (src : List X) (before : List ℤ) (from : ℕ) where
   abbrev pub Copied : ℕ → List ℤ → Type 0
   Copied i out = out ≡ sets before from (map f (take i src))

@@ -1,4 +1,5 @@
 // The calls of aps for C or Rust to link: 0 with the answer in the lent arrays, or a refusal's number with the arrays as they were.
+use crate::numbers::NUMBERS;
 use crate::numbers::put_set;
 use aps::aps::ApsOutcome;
 use aps::aps::ApsReading;
@@ -34,7 +35,7 @@ fn number(e: Refusal) -> u32
 }
 
 // The set's numbers and the bit where reading ended.
-fn answered(reading: ApsReading, set: &mut [i64; 3122], end: &mut [u64; 1]) -> u32
+fn answered(reading: ApsReading, set: &mut [i64; NUMBERS], end: &mut [u64; 1]) -> u32
     ensures code { λ r. ⌜ r ≡ code (outcomeAps reading) ⌝ }
     ensures set { λ _. ⌜ now (set .exit) ≡ given (outcomeAps reading) (now (set .entry)) ⌝ }
     ensures end { λ _. ⌜ now (end .exit) ≡ placed (outcomeAps reading) (now (end .entry)) ⌝ }
@@ -75,7 +76,7 @@ pub extern "C" fn aps_parse_nal_header(unit: &[u8], header: &mut [u8; 5]) -> u32
 }
 
 #[no_mangle]
-pub extern "C" fn aps_parse_rbsp(bytes: &[u8], set: &mut [i64; 3122], end: &mut [u64; 1]) -> u32
+pub extern "C" fn aps_parse_rbsp(bytes: &[u8], set: &mut [i64; NUMBERS], end: &mut [u64; 1]) -> u32
     ensures code { λ r. ⌜ r ≡ code (parseApsRbsp (now (bytes .entry))) ⌝ }
     ensures set { λ _. ⌜ now (set .exit) ≡ given (parseApsRbsp (now (bytes .entry))) (now (set .entry)) ⌝ }
     ensures end { λ _. ⌜ now (end .exit) ≡ placed (parseApsRbsp (now (bytes .entry))) (now (end .entry)) ⌝ }
@@ -104,7 +105,7 @@ pub extern "C" fn aps_rbsp_end(bytes: &[u8], end: &mut [u64; 1]) -> u32
 pub extern "C" fn aps_parse(
     unit: &[u8],
     work: &mut [u8],
-    set: &mut [i64; 3122],
+    set: &mut [i64; NUMBERS],
     end: &mut [u64; 1],
 ) -> u32
     ensures code { λ r. ⌜ r ≡ code (parseAps (now (unit .entry)) (length (now (work .entry)))) ⌝ }
