@@ -9,7 +9,7 @@ use borrow.Author.Tests.{leb-true}
 use lib.Count.{leadingZeros}
 use Rattle.bitstream.specs.Fields.{ueZeros, ueBits}
 use Rattle.aps.specs.Codec.{Codec, ue, _▷_, judged}
-use Rattle.aps.specs.LmcsSyntax.{LmcsHead, inRange, codedFrom, lmcsSyntax, toLmcs, fromLmcs, lmcs}
+use Rattle.aps.specs.LmcsSyntax.{LmcsHead, inRange, codedFrom, lmcsSyntax, toLmcs, fromLmcs, lmcs, lmcsHead}
 use Rattle.aps.proofs.Lawful.{Lawful}
 use Rattle.aps.proofs.FieldLaws.{u-law, ue-law}
 use Rattle.aps.proofs.CodecLaws.{and-left, and-right, ▷-law, judged-law, when-law, via-law, bound-law, most-law}
@@ -33,17 +33,13 @@ ranges h e =
       prec = leb-true (h .1 .1) 14 (and-right (leb (h .0) 15 && (leb (h .1 .0) 15 && leb (h .0) (15 - h .1 .0))) (leb (h .1 .1) 14) e);
     }
 
--- min bin, delta max, precision - 1
-abbrev pub head : Codec LmcsHead
-head = judged inRange (ue ▷ λ min. ue ▷ λ max. ue)
-
 -- a head that is taken is in range
-pub head-ranges : (h : LmcsHead) → head .ok h ≡ true → Ranges h
+pub head-ranges : (h : LmcsHead) → lmcsHead .ok h ≡ true → Ranges h
 unfolding judged
 head-ranges h o = ranges h (and-right ((ue ▷ λ min. ue ▷ λ max. ue) .ok h) (inRange h) o)
 
 -- so it has at most 25 bits
-head-most : (h : LmcsHead) → head .ok h ≡ true → length (head .emit h) ≤ 25
+head-most : (h : LmcsHead) → lmcsHead .ok h ≡ true → length (lmcsHead .emit h) ≤ 25
 unfolding judged _▷_ ue ueZeros leadingZeros
 head-most h o =
     let r = head-ranges h o in
@@ -56,7 +52,7 @@ head-most h o =
       ue-most 14 (h .1 .1) (lit< tt) (r .prec),
     )
 
-pub head-law : Lawful head 25
+pub head-law : Lawful lmcsHead 25
 head-law = bound-law 25 head-most (judged-law inRange (▷-law ue-law (λ min o. ▷-law ue-law (λ max o. ue-law))))
 
 -- what is sent: at most 285 bits

@@ -17,7 +17,7 @@ use Rattle.aps.specs.AlfSyntax.{alf}
 use Rattle.aps.specs.LmcsSyntax.{lmcs}
 use Rattle.aps.specs.ScalingSyntax.{Entry, scalingSyntax, keep}
 use Rattle.aps.specs.ApsSyntax.{zeroAlf, zeroLmcs, zeroScaling, Payload, ofAlf, ofLmcs, ofScaling, payload, ApsData, apsSyntax, toAps, aps}
-use Rattle.aps.specs.Rbsp.{closed, readRbsp, parseApsRbsp, Headed, withExtension, finished}
+use Rattle.aps.specs.Rbsp.{closed, readRbsp, parseApsRbsp, Headed}
 use Rattle.aps.specs.declared.alf.VvcAlfData.{VvcAlfData}
 use Rattle.aps.specs.declared.lmcs.VvcLmcsData.{VvcLmcsData}
 use Rattle.aps.specs.declared.scaling_list.VvcScalingListData.{VvcScalingListData}
@@ -28,6 +28,23 @@ use Rattle.aps.specs.declared.aps.ApsOutcome.the-variants as Aps
 use Rattle.aps.specs.Reading.{outcomeRead, setGiven}
 use Rattle.aps.proofs.Answers.{answered}
 use Rattle.aps.proofs.Steps.{flag-read}
+
+-- the set with the extension flag read
+unfoldable pub withExtension : VvcAps → Bool → VvcAps
+withExtension a x =
+    record {
+      kind = a .kind;
+      «aps_adaptation_parameter_set_id» = a .«aps_adaptation_parameter_set_id»;
+      «aps_chroma_present_flag» = a .«aps_chroma_present_flag»;
+      «aps_extension_flag» = x;
+      alf = a .alf;
+      lmcs = a .lmcs;
+      scaling = a .scaling;
+    }
+
+-- the extension flag and what closes the RBSP
+unfoldable pub finished : List ℕ → VvcAps → ℕ → Outcome VvcAps
+finished s a q = flag .read s q then λ x r. closed s (withExtension a x) r
 
 -- a set of each kind with extension flag 0
 abbrev pub setOf : ApsKind → ℕ → Bool → VvcAlfData → VvcLmcsData → VvcScalingListData → VvcAps

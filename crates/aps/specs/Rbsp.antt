@@ -8,7 +8,6 @@ use lib.ListN.{length}
 use Rattle.bitstream.specs.Outcome.{Outcome, value, refused, _then_}
 use Rattle.bitstream.specs.Bits.{fieldAt, pack}
 use Rattle.bitstream.specs.Fields.{readTrailing, trailingBits}
-use Rattle.aps.specs.Elements.{flag}
 use Rattle.aps.specs.ApsSyntax.{aps}
 use Rattle.aps.specs.declared.aps.VvcAps.{VvcAps}
 
@@ -31,27 +30,8 @@ rbspBits a = aps .emit a ++ trailingBits (length (aps .emit a))
 unfoldable pub rbspBytes : VvcAps → List ℕ
 rbspBytes a = pack (rbspBits a)
 
--- ---- the set by its kind, as its reader puts it together
-
 -- what stands before the payload: kind, id and chroma flag
 pub record Headed (s : List ℕ) (kind id : ℕ) (chroma : Bool) : Type 0 where
   pub kind-is : fieldAt s 0 3 ≡ kind
   pub id-is : fieldAt s 3 5 ≡ id
   pub chroma-is : not (eqb (fieldAt s 8 1) 0) ≡ chroma
-
--- the set with the extension flag read
-unfoldable pub withExtension : VvcAps → Bool → VvcAps
-withExtension a x =
-    record {
-      kind = a .kind;
-      «aps_adaptation_parameter_set_id» = a .«aps_adaptation_parameter_set_id»;
-      «aps_chroma_present_flag» = a .«aps_chroma_present_flag»;
-      «aps_extension_flag» = x;
-      alf = a .alf;
-      lmcs = a .lmcs;
-      scaling = a .scaling;
-    }
-
--- the extension flag and what closes the RBSP
-unfoldable pub finished : List ℕ → VvcAps → ℕ → Outcome VvcAps
-finished s a q = flag .read s q then λ x r. closed s (withExtension a x) r

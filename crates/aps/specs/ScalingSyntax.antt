@@ -68,17 +68,12 @@ unfoldable pub sums : ℕ → ℕ → ℕ → ℤ → Codec (List ℤ)
 sums id i zero prev = each 0 (λ j. step prev)
 sums id i (suc n) prev =
     via cons uncons someLeft
-    (when (not (skipped id i)) (just prev) (step prev) ▷ λ v.  -- scaling_list_delta_coef[ id ][ i ]
+    (stepAt id i prev ▷ λ v.  -- scaling_list_delta_coef[ id ][ i ]
     sums id (suc i) n v)
 
 -- copy flag, prediction flag, delta, DC, list
 abbrev pub Entry : Type 0
 Entry = Bool × (Bool × (ℕ × (ℤ × List ℤ)))
-
-unfoldable pub coefficients : ℕ → Codec (ℤ × List ℤ)
-coefficients id =
-    when (ltb 13 id) (just (pos 0)) (seIn (negsuc 127) (pos 127)) ▷ λ dc.  -- scaling_list_dc_coef[ id - 14 ]
-    sums id 0 (entries id) dc
 
 -- the DC, and the delta where an id is copied or predicted
 abbrev pub dcAt : ℕ → Codec ℤ
@@ -87,6 +82,11 @@ dcAt id = when (ltb 13 id) (just (pos 0)) (seIn (negsuc 127) (pos 127))
 abbrev pub deltaAt : ℕ → Bool → Codec ℕ
 deltaAt id used = when (used && not (eqb id 0 || eqb id 2 || eqb id 8)) noNumber (ueTo (maxIdDelta id))
 
+unfoldable pub coefficients : ℕ → Codec (ℤ × List ℤ)
+coefficients id =
+    dcAt id ▷ λ dc.  -- scaling_list_dc_coef[ id - 14 ]
+    sums id 0 (entries id) dc
+
 abbrev pub noEntries : Inferred (List ℤ)
 noEntries = record { default = []; is = λ l. eqb (length l) 0 }
 
@@ -94,7 +94,7 @@ unfoldable pub entrySyntax : ℕ → Codec Entry
 entrySyntax id =
     flag ▷ λ copy.  -- scaling_list_copy_mode_flag[ id ]
     when (not copy) noFlag flag ▷ λ pred.  -- scaling_list_pred_mode_flag[ id ]
-    when ((copy || pred) && not (eqb id 0 || eqb id 2 || eqb id 8)) noNumber (ueTo (maxIdDelta id)) ▷ λ delta.  -- scaling_list_pred_id_delta[ id ]
+    deltaAt id (copy || pred) ▷ λ delta.  -- scaling_list_pred_id_delta[ id ]
     when (not copy) (noPair (just (pos 0)) noEntries) (coefficients id)
 
 -- an id that is not coded is a copy
@@ -108,7 +108,7 @@ abbrev pub idAt : Bool → ℕ → Codec Entry
 idAt chroma id = when (idCoded chroma id) noEntry (entrySyntax id)
 
 unfoldable pub scalingSyntax : Bool → Codec (List Entry)
-scalingSyntax chroma = each 28 λ id. when (idCoded chroma id) noEntry (entrySyntax id)
+scalingSyntax chroma = each 28 (idAt chroma)
 
 -- What the reader keeps of the ids: lists filled up to 64 with 0, and the DCs from id 14 on.
 unfoldable pub filled : List ℤ → List ℤ

@@ -10,10 +10,9 @@ use Rattle.aps.specs.Reading.{outcomeStop}
 use Rattle.aps.proofs.aps.alf_set.Statement.{statement}
 use Rattle.aps.proofs.aps.alf_set.Tie as tie
 use Rattle.aps.specs.ApsSyntax.{zeroAlf, zeroLmcs, zeroScaling}
-use Rattle.aps.specs.Rbsp.{withExtension}
 use Rattle.aps.specs.declared.aps.ApsKind.{ApsKind}
 use Rattle.aps.proofs.Answers.{answered, refused-answer}
-use Rattle.aps.proofs.RbspSteps.{setOf, alf-refused, alf-id, alf-set, set-ended, set-refused}
+use Rattle.aps.proofs.RbspSteps.{withExtension, setOf, alf-refused, alf-id, alf-set, set-ended, set-refused}
 
 -- what the payload gave, and how far it reached
 taken : (c : tie.After-known-told)
