@@ -22,6 +22,8 @@ pub mod RowLaws
 pub mod SignedLaws
 pub mod Steps
 pub mod StopLaws
+pub mod WriteSteps
+pub mod PutLaws
 pub mod AlfSteps
 pub mod AlternativeSteps
 pub mod LmcsSteps

@@ -50,7 +50,7 @@ pub noEntry-is : IsInferred noEntry
 noEntry-is = noPair-is copied-is (noPair-is noFlag-is (noPair-is noNumber-is (noPair-is (just-is (pos 0)) noEntries-is)))
 
 -- the codes of -128..127 are at most 256
-code-le : (z : ℤ) → leZ (negsuc 127) z ≡ true → leZ z (pos 127) ≡ true → seCode z ≤ 256
+pub code-le : (z : ℤ) → leZ (negsuc 127) z ≡ true → leZ z (pos 127) ≡ true → seCode z ≤ 256
 unfolding seCode
 code-le (pos zero) a b = omega arith
 code-le (pos (suc n)) a b = let h = leb-true (suc n) 127 b in omega arith

@@ -8,3 +8,4 @@ pub mod Rbsp
 pub mod Unit
 pub mod Reading
 pub mod Stops
+pub mod Writing

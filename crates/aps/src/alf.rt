@@ -265,7 +265,7 @@ fn read_clips(bytes: &[u8], from: Stop, n: usize, clip: &mut [u8]) -> Stop
 }
 
 // How many clips are sent.
-fn clips_sent(clip: bool, n: usize) -> usize
+pub(crate) fn clips_sent(clip: bool, n: usize) -> usize
     ensures { λ r. ⌜ (r ≡ cond clip n 0) × (r ≤ n) ⌝ }
 {
     if clip { n } else { 0 }

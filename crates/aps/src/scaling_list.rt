@@ -208,7 +208,7 @@ fn read_coefficients(bytes: &[u8], p: usize, id: usize, list: &mut [i32; 1792]) 
 }
 
 // scaling_list_pred_id_delta is sent for an id that is copied or predicted, but for the first of each size.
-fn delta_sent(id: usize, used: bool) -> bool
+pub(crate) fn delta_sent(id: usize, used: bool) -> bool
     ensures { λ r. ⌜ r ≡ (used && not (eqb id 0 || eqb id 2 || eqb id 8)) ⌝ }
 {
     if !used {
