@@ -23,6 +23,9 @@ abbrev μ-loop : tie.MeasureT-loop
 loop-holds : tie.Need-loop-holds Inv-loop μ-loop
 loop-holds c = (c .pre, refl)
 
+mul-if1 : tie.Need-mul-if1 Inv-loop μ-loop
+mul-if1 c = omega arith
+
 shared-slice-read-if1 : tie.Need-shared-slice-read-if1 Inv-loop μ-loop
 shared-slice-read-if1 c = omega arith
 
@@ -51,4 +54,4 @@ returns c =
     every-done (λ v. eqb v 0) 0 (now (c .before .before .args .numbers)) (o .i) (o .all) _ (omega arith) (o .inv .1)
 
 pub zero-numbers-spec : {M : Type 1} → statement M
-zero-numbers-spec = tie.close (tie.spec Inv-loop μ-loop loop-holds shared-slice-read-if1 add-i loop-less loop-again returns)
+zero-numbers-spec = tie.close (tie.spec Inv-loop μ-loop loop-holds mul-if1 shared-slice-read-if1 add-i loop-less loop-again returns)
