@@ -198,18 +198,3 @@ inferred-kept a o = from-to (fromAps a) (and-left (apsSyntax .ok (fromAps a)) tr
 pub inferred-flag : (a : VvcAps) → (inferred a) .«aps_extension_flag» ≡ a .«aps_extension_flag»
 unfolding inferred toAps fromAps
 inferred-flag a = refl
-
--- an ALF set's own record is as it was
-pub inferred-alf : (a : VvcAps) → a .kind ≡ ApsKind.Alf → (inferred a) .alf ≡ a .alf
-unfolding inferred toAps fromAps
-inferred-alf a e = ap (λ (k : ApsKind). alfIn (payloadOf k (a .«aps_chroma_present_flag») (a .alf) (a .lmcs) (a .scaling))) e
-
--- and an LMCS set's
-pub inferred-lmcs : (a : VvcAps) → a .kind ≡ ApsKind.Lmcs → (inferred a) .lmcs ≡ a .lmcs
-unfolding inferred toAps fromAps
-inferred-lmcs a e = ap (λ (k : ApsKind). lmcsIn (payloadOf k (a .«aps_chroma_present_flag») (a .alf) (a .lmcs) (a .scaling))) e
-
--- of a scaling set's, what the writer looks at is kept
-pub inferred-scaling : (a : VvcAps) → a .kind ≡ ApsKind.Scaling → (inferred a) .scaling ≡ keep (look (a .«aps_chroma_present_flag») (a .scaling))
-unfolding inferred toAps fromAps
-inferred-scaling a e = ap (λ (k : ApsKind). scalingIn (payloadOf k (a .«aps_chroma_present_flag») (a .alf) (a .lmcs) (a .scaling))) e

@@ -134,6 +134,24 @@ looked-dc chroma id copy pred delta dc dc′ row h = rw (go (ltb 13 id) refl)
     go true e = h (ltb-true 13 id e)
     go false e = refl
 
+-- the list and the DC that are kept of an id
+module _ (es : List Entry) (j : ℕ) (h : j < length es) where
+  abbrev here : Entry
+  here = getD es j (noEntry .default)
+
+  pub kept-row : take 64 (drop (j * 64) ((keep es) .«scaling_list»)) ≡ filled (here .1 .1 .1 .1)
+  unfolding keep
+  kept-row =
+      row-at 64 (filled []) (map (λ (e : Entry). filled (e .1 .1 .1 .1)) es) (filled-wide es) j (omega (arith, length-map es (λ (e : Entry). filled (e .1 .1 .1 .1))))
+      ∙ List·getD-map (λ (e : Entry). filled (e .1 .1 .1 .1)) es j (noEntry .default)
+
+  pub kept-dc : 13 < j → getD ((keep es) .«dc_coef») (j - 14) (pos 0) ≡ here .1 .1 .1 .0
+  unfolding keep
+  kept-dc l =
+      getD-drop 14 (map (λ (e : Entry). e .1 .1 .1 .0) es) (j - 14) (pos 0)
+      ∙ ap (λ (i : ℕ). getD (map (λ (e : Entry). e .1 .1 .1 .0) es) i (pos 0)) (omega arith)
+      ∙ List·getD-map (λ (e : Entry). e .1 .1 .1 .0) es j (noEntry .default)
+
 -- what was read is looked at again as it was read
 pub look-keep : (chroma : Bool) (es : List Entry) → (scalingSyntax chroma) .ok es ≡ true → look chroma (keep es) ≡ es
 unfolding scalingSyntax look keep
@@ -141,13 +159,8 @@ look-keep chroma es o =
     let n = each-length 0 28 k es o in
     tabulate-is 0 28 f d es n λ j h.
     let e = getD es j d in
-    let row : take 64 (drop (j * 64) (s .«scaling_list»)) ≡ filled (e .1 .1 .1 .1)
-    = row-at 64 (filled []) (map (λ (e : Entry). filled (e .1 .1 .1 .1)) es) (filled-wide es) j (omega (arith, length-map es (λ (e : Entry). filled (e .1 .1 .1 .1))))
-    ∙ List·getD-map (λ (e : Entry). filled (e .1 .1 .1 .1)) es j d in
-    let dc : 13 < j → getD (s .«dc_coef») (j - 14) (pos 0) ≡ e .1 .1 .1 .0
-    = λ l. getD-drop 14 (map (λ (e : Entry). e .1 .1 .1 .0) es) (j - 14) (pos 0)
-    ∙ ap (λ (i : ℕ). getD (map (λ (e : Entry). e .1 .1 .1 .0) es) i (pos 0)) (omega arith)
-    ∙ List·getD-map (λ (e : Entry). e .1 .1 .1 .0) es j d in
+    let row = kept-row es j (omega arith) in
+    let dc = kept-dc es j (omega arith) in
     rw (zero-add j, List·getD-map (λ (e : Entry). e .0) es j d, List·getD-map (λ (e : Entry). e .1 .0) es j d, List·getD-map (λ (e : Entry). e .1 .1 .0) es j d, row)
     (looked-dc chroma j (e .0) (e .1 .0) (e .1 .1 .0) (getD (s .«dc_coef») (j - 14) (pos 0)) (e .1 .1 .1 .0) (filled (e .1 .1 .1 .1)) dc
     ∙ entry-looked chroma j e (rw (zero-add j) at (each-at 0 28 k d es o j h)))

@@ -12,6 +12,8 @@ pub mod ApsLaws
 pub mod PackLaws
 pub mod ExtensionLaws
 pub mod RbspLaws
+pub mod RoundTrips
+pub mod InferredLaws
 pub mod LocalLaws
 pub mod Marked
 pub mod Answers
