@@ -20,12 +20,13 @@ use bitstream::bit_reader::Trailing;
 use bitstream::nal::Size;
 use bitstream::nal::ebsp_to_rbsp;
 ghost use mathlib.Core.Path.{_≡_};
+ghost use mathlib.Core.Bool.{false};
 ghost use Prim.Native.Nat.{_-_, _≤_};
 ghost use lib.ListN.{length, drop};
 ghost use mathlib.Core.List.{_++_};
 ghost use Rattle.aps.specs.Rbsp.{closed, readRbsp, parseApsRbsp, Headed};
 ghost use Rattle.aps.specs.Unit.{isAps, rbspOf, outcomeJ, judgedUnit, parseAps, workAfter};
-ghost use Rattle.aps.specs.ApsSyntax.{emptySet};
+ghost use Rattle.aps.specs.ApsSyntax.{emptySet, zeroAlf, zeroLmcs, zeroScaling};
 ghost use Rattle.aps.specs.Reading.{outcomeRead, outcomeAps, setGiven};
 ghost use Rattle.aps.specs.declared.aps.VvcAps.{VvcAps};
 
@@ -122,14 +123,36 @@ fn read_end(bytes: &[u8], p: usize, extension: bool) -> ApsOutcome
     }
 }
 
+// The answer for an LMCS set but for the arrays that are 0 in it; a refusal's set is the empty set.
+struct LmcsAnswer {
+    outcome: ApsOutcome,
+    kind: ApsKind,
+    id: u8,
+    chroma: bool,
+    extension: bool,
+    lmcs: VvcLmcsData,
+}
+
+fn refuse_lmcs(why: Refusal) -> LmcsAnswer
+    ensures { λ r. ⌜ (r .outcome ≡ ApsOutcome.Refused why) × (r .kind ≡ ApsKind.Alf) × (r .id ≡ 0) × (r .chroma ≡ false) × (r .extension ≡ false) × (r .lmcs ≡ zeroLmcs) ⌝ }
+{
+    LmcsAnswer {
+        outcome: ApsOutcome::Refused(why),
+        kind: ApsKind::Alf,
+        id: 0,
+        chroma: false,
+        extension: false,
+        lmcs: zero_lmcs(),
+    }
+}
+
 // An LMCS set: its id is judged before its payload.
-fn lmcs_set(bytes: &[u8], id: u8, chroma: bool) -> ApsReading
+fn lmcs_answer(bytes: &[u8], id: u8, chroma: bool) -> LmcsAnswer
     requires { ⌜ (length (now bytes) ≤ 65536) × Headed (now bytes) 1 id chroma ⌝ }
-    ensures answer { λ r. ⌜ outcomeAps r ≡ readRbsp (now (bytes .entry)) ⌝ }
-    ensures set { λ r. ⌜ r .set ≡ setGiven (readRbsp (now (bytes .entry))) ⌝ }
+    ensures { λ r. ⌜ ((a : VvcAps) → a ≡ record { kind = r .kind; «aps_adaptation_parameter_set_id» = r .id; «aps_chroma_present_flag» = r .chroma; «aps_extension_flag» = r .extension; alf = zeroAlf; lmcs = r .lmcs; scaling = zeroScaling } → (outcomeRead (r .outcome) a ≡ readRbsp (now (bytes .entry))) × (a ≡ setGiven (readRbsp (now (bytes .entry))))) ⌝ }
 {
     if Lmcs::MAX_ID < id {
-        return refuse(Refusal::InvalidData);
+        return refuse_lmcs(Refusal::InvalidData);
     }
     let read = read_lmcs(bytes, 9, chroma);
     let stop = read.stop;
@@ -139,22 +162,42 @@ fn lmcs_set(bytes: &[u8], id: u8, chroma: bool) -> ApsReading
             let extension = read_flag(bytes, q);
             let end = read_end(bytes, q + 1, extension);
             match end {
-                ApsOutcome::Read(at) => ApsReading {
+                ApsOutcome::Read(at) => LmcsAnswer {
                     outcome: ApsOutcome::Read(at),
-                    set: VvcAps {
-                        kind: ApsKind::Lmcs,
-                        aps_adaptation_parameter_set_id: id,
-                        aps_chroma_present_flag: chroma,
-                        aps_extension_flag: extension,
-                        alf: zero_alf(),
-                        lmcs,
-                        scaling: zero_scaling(),
-                    },
+                    kind: ApsKind::Lmcs,
+                    id,
+                    chroma,
+                    extension,
+                    lmcs,
                 },
-                ApsOutcome::Refused(why) => refuse(why),
+                ApsOutcome::Refused(why) => refuse_lmcs(why),
             }
         }
-        Stop::Refused(why) => refuse(why),
+        Stop::Refused(why) => refuse_lmcs(why),
+    }
+}
+
+// The large arrays are made once, whatever was answered.
+fn lmcs_set(bytes: &[u8], id: u8, chroma: bool) -> ApsReading
+    requires { ⌜ (length (now bytes) ≤ 65536) × Headed (now bytes) 1 id chroma ⌝ }
+    ensures answer { λ r. ⌜ outcomeAps r ≡ readRbsp (now (bytes .entry)) ⌝ }
+    ensures set { λ r. ⌜ r .set ≡ setGiven (readRbsp (now (bytes .entry))) ⌝ }
+{
+    let answer = lmcs_answer(bytes, id, chroma);
+    let outcome = answer.outcome;
+    let kind = answer.kind;
+    let lmcs = answer.lmcs;
+    ApsReading {
+        outcome,
+        set: VvcAps {
+            kind,
+            aps_adaptation_parameter_set_id: answer.id,
+            aps_chroma_present_flag: answer.chroma,
+            aps_extension_flag: answer.extension,
+            alf: zero_alf(),
+            lmcs,
+            scaling: zero_scaling(),
+        },
     }
 }
 

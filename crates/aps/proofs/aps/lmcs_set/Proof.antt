@@ -1,51 +1,11 @@
--- `lmcs_set`: the id, the payload, then how the set ends.
+-- `lmcs_set`: what was answered, with the other arrays 0.
 use borrow.Author.Needs.{needs}
-use Prim.Native.Nat.{_≤_}
-use mathlib.Core.Path.{_≡_}
-use denote.Ref.{now}
-use native.Mathlib.Omega.{arith}
-use Rattle.bitstream.specs.Outcome.{value}
-use Rattle.aps.specs.LmcsSyntax.{lmcs}
-use Rattle.aps.specs.Reading.{outcomeStop}
+use mathlib.Core.Path.{refl}
 use Rattle.aps.proofs.aps.lmcs_set.Statement.{statement}
 use Rattle.aps.proofs.aps.lmcs_set.Tie as tie
-use Rattle.aps.specs.ApsSyntax.{zeroAlf, zeroLmcs, zeroScaling}
-use Rattle.aps.specs.declared.aps.ApsKind.{ApsKind}
-use Rattle.aps.proofs.Answers.{answered, refused-answer}
-use Rattle.aps.proofs.RbspSteps.{withExtension, setOf, lmcs-refused, lmcs-id, lmcs-set, set-ended, set-refused}
 
--- what the payload gave, and how far it reached
-taken : (c : tie.After-known-told)
-    → ((lmcs (c .before .before .before .before .before .before .before .args .chroma)) .read (now (c .before .before .before .before .before .before .before .args .bytes)) 9 ≡ value (c .before .before .before .before .read-lmcs .result .lmcs) (c .before .stop .given .0 .0)) × (c .before .stop .given .0 .0 ≤ 509)
-taken c =
-    let k = c .before .before .before .before .read-lmcs in
-    (answered (λ st. outcomeStop st (k .result .lmcs)) (c .before .stop .given .1) (k .ensures .0), rw (c .before .stop .given .1) at (k .ensures .1))
-
-refuse-requires : tie.Need-refuse-requires
-refuse-requires c κs = search needs
-
-returns : tie.Need-returns
-returns c =
-    let b = c .before .before .before in
-    refused-answer (c .refuse .result) _ (c .refuse .ensures) (lmcs-id (now (b .args .bytes)) (b .args .id) (b .args .chroma) (b .pre .1) (c .before .if1 .taken))
-
-read-lmcs-requires : tie.Need-read-lmcs-requires
-read-lmcs-requires c κs = search needs
-
-enum-known-stop : tie.Need-enum-known-stop
-enum-known-stop c = search needs
-
-read-flag-requires : tie.Need-read-flag-requires
-read-flag-requires c κs = (c .before .before .before .before .before .before .before .pre .0, omega (arith, taken c .1))
-
-add-read-end : tie.Need-add-read-end
-add-read-end c = omega (arith, taken (c .before) .1)
-
-read-end-requires : tie.Need-read-end-requires
-read-end-requires c κs = (c .before .before .before .before .before .before .before .before .pre .0, omega (arith, taken (c .before) .1))
-
-enum-known-end : tie.Need-enum-known-end
-enum-known-end c = search needs
+lmcs-answer-requires : tie.Need-lmcs-answer-requires
+lmcs-answer-requires c κs = search needs
 
 zero-alf-requires : tie.Need-zero-alf-requires
 zero-alf-requires c κs = search needs
@@ -53,64 +13,9 @@ zero-alf-requires c κs = search needs
 zero-scaling-requires : tie.Need-zero-scaling-requires
 zero-scaling-requires c κs = search needs
 
-enum-known-end-2 : tie.Need-enum-known-end-2
-enum-known-end-2 c = search needs
-
-refuse-requires-2 : tie.Need-refuse-requires-2
-refuse-requires-2 c κs = search needs
-
-enum-known-stop-2 : tie.Need-enum-known-stop-2
-enum-known-stop-2 c = search needs
-
-refuse-requires-3 : tie.Need-refuse-requires-3
-refuse-requires-3 c κs = search needs
-
-returns-2 : tie.Need-returns-2
-unfolding withExtension
-returns-2 c =
-    let b = c .before .before .before .before .before .before .before .before .before .before .before .before .before .before in
-    let k = c .before .before .before .before .before .before .before .before .before .before .before .read-lmcs in
-    let t = taken (c .before .before .before .before .before .before .before) in
-    let x = c .before .before .before .before .before .before .read-flag in
-    let r = c .before .before .before .before .before .read-end in
-    rw (c .before .zero-alf .ensures, c .zero-scaling .ensures)
-    (set-ended (now (b .args .bytes)) (setOf ApsKind.Lmcs (b .args .id) (b .args .chroma) zeroAlf (k .result .lmcs) zeroScaling) _ (x .result) (r .result) (x .ensures) (r .ensures) (lmcs-set (now (b .args .bytes)) (b .args .id) (b .args .chroma) (b .pre .1) (c .before .before .before .before .before .before .before .before .before .before .before .before .if1 .left) _ _ (t .0)) _ (c .before .before .before .end .given .1))
-
-returns-3 : tie.Need-returns-3
-returns-3 c =
-    let b = c .before .before .before .before .before .before .before .before .before .before .before .before .before in
-    let k = c .before .before .before .before .before .before .before .before .before .before .read-lmcs in
-    let t = taken (c .before .before .before .before .before .before) in
-    let x = c .before .before .before .before .before .read-flag in
-    let r = c .before .before .before .before .read-end in
-    refused-answer (c .refuse2 .result) _ (c .refuse2 .ensures)
-    (set-refused (now (b .args .bytes)) (setOf ApsKind.Lmcs (b .args .id) (b .args .chroma) zeroAlf (k .result .lmcs) zeroScaling) _ (x .result) (r .result) (x .ensures) (r .ensures) (lmcs-set (now (b .args .bytes)) (b .args .id) (b .args .chroma) (b .pre .1) (c .before .before .before .before .before .before .before .before .before .before .before .if1 .left) _ _ (t .0)) _ (c .before .before .end2 .given .1))
-
-returns-4 : tie.Need-returns-4
-returns-4 c =
-    let b = c .before .before .before .before .before .before .before .before in
-    let k = c .before .before .before .before .before .read-lmcs in
-    let e = answered (λ st. outcomeStop st (k .result .lmcs)) (c .before .before .stop2 .given .1) (k .ensures .0) in
-    refused-answer (c .refuse3 .result) _ (c .refuse3 .ensures) (lmcs-refused (now (b .args .bytes)) (b .args .id) (b .args .chroma) (b .pre .1) (c .before .before .before .before .before .before .if1 .left) _ e)
+returns : tie.Need-returns
+returns c = rw (c .before .zero-alf .ensures, c .zero-scaling .ensures) (c .before .before .before .lmcs-answer .ensures _ refl)
 
 pub lmcs-set-spec : {M : Type 1} → statement M
 lmcs-set-spec =
-    tie.close
-    (tie.spec
-    refuse-requires
-    returns
-    read-lmcs-requires
-    enum-known-stop
-    read-flag-requires
-    add-read-end
-    read-end-requires
-    enum-known-end
-    zero-alf-requires
-    zero-scaling-requires
-    enum-known-end-2
-    refuse-requires-2
-    enum-known-stop-2
-    refuse-requires-3
-    returns-2
-    returns-3
-    returns-4)
+    tie.close (tie.spec lmcs-answer-requires zero-alf-requires zero-scaling-requires returns)

@@ -1,0 +1,108 @@
+-- `lmcs_answer`: the id, the payload, then how the set ends.
+use borrow.Author.Needs.{needs}
+use Prim.Native.Nat.{_≤_}
+use mathlib.Core.Path.{_≡_}
+use denote.Ref.{now}
+use native.Mathlib.Omega.{arith}
+use Rattle.bitstream.specs.Outcome.{value}
+use Rattle.aps.specs.LmcsSyntax.{lmcs}
+use Rattle.aps.specs.Reading.{outcomeStop}
+use Rattle.aps.proofs.aps.lmcs_answer.Statement.{statement}
+use Rattle.aps.proofs.aps.lmcs_answer.Tie as tie
+use Rattle.aps.specs.ApsSyntax.{zeroAlf, zeroScaling}
+use Rattle.aps.specs.declared.aps.ApsKind.{ApsKind}
+use Rattle.aps.proofs.Answers.{answered, refused-parts}
+use Rattle.aps.proofs.RbspSteps.{withExtension, setOf, lmcs-refused, lmcs-id, lmcs-set, set-ended, set-refused}
+
+-- what the payload gave, and how far it reached
+taken : (c : tie.After-known-told)
+    → ((lmcs (c .before .before .before .before .before .before .before .args .chroma)) .read (now (c .before .before .before .before .before .before .before .args .bytes)) 9 ≡ value (c .before .before .before .before .read-lmcs .result .lmcs) (c .before .stop .given .0 .0)) × (c .before .stop .given .0 .0 ≤ 509)
+taken c =
+    let k = c .before .before .before .before .read-lmcs in
+    (answered (λ st. outcomeStop st (k .result .lmcs)) (c .before .stop .given .1) (k .ensures .0), rw (c .before .stop .given .1) at (k .ensures .1))
+
+refuse-lmcs-requires : tie.Need-refuse-lmcs-requires
+refuse-lmcs-requires c κs = search needs
+
+returns : tie.Need-returns
+returns c =
+    let b = c .before .before .before in
+    refused-parts _ (c .refuse-lmcs .ensures) (lmcs-id (now (b .args .bytes)) (b .args .id) (b .args .chroma) (b .pre .1) (c .before .if1 .taken))
+
+read-lmcs-requires : tie.Need-read-lmcs-requires
+read-lmcs-requires c κs = search needs
+
+enum-known-stop : tie.Need-enum-known-stop
+enum-known-stop c = search needs
+
+read-flag-requires : tie.Need-read-flag-requires
+read-flag-requires c κs = (c .before .before .before .before .before .before .before .pre .0, omega (arith, taken c .1))
+
+add-read-end : tie.Need-add-read-end
+add-read-end c = omega (arith, taken (c .before) .1)
+
+read-end-requires : tie.Need-read-end-requires
+read-end-requires c κs = (c .before .before .before .before .before .before .before .before .pre .0, omega (arith, taken (c .before) .1))
+
+enum-known-end : tie.Need-enum-known-end
+enum-known-end c = search needs
+
+enum-known-end-2 : tie.Need-enum-known-end-2
+enum-known-end-2 c = search needs
+
+refuse-lmcs-requires-2 : tie.Need-refuse-lmcs-requires-2
+refuse-lmcs-requires-2 c κs = search needs
+
+enum-known-stop-2 : tie.Need-enum-known-stop-2
+enum-known-stop-2 c = search needs
+
+refuse-lmcs-requires-3 : tie.Need-refuse-lmcs-requires-3
+refuse-lmcs-requires-3 c κs = search needs
+
+returns-2 : tie.Need-returns-2
+unfolding withExtension
+returns-2 c =
+    let b = c .before .before .before .before .before .before .before .before .before .before .before .before in
+    let k = c .before .before .before .before .before .before .before .before .before .read-lmcs in
+    let t = taken (c .before .before .before .before .before) in
+    let x = c .before .before .before .before .read-flag in
+    let r = c .before .before .before .read-end in
+    λ a f. rw f
+    (set-ended (now (b .args .bytes)) (setOf ApsKind.Lmcs (b .args .id) (b .args .chroma) zeroAlf (k .result .lmcs) zeroScaling) _ (x .result) (r .result) (x .ensures) (r .ensures) (lmcs-set (now (b .args .bytes)) (b .args .id) (b .args .chroma) (b .pre .1) (c .before .before .before .before .before .before .before .before .before .before .if1 .left) _ _ (t .0)) _ (c .before .end .given .1))
+
+returns-3 : tie.Need-returns-3
+returns-3 c =
+    let b = c .before .before .before .before .before .before .before .before .before .before .before .before .before in
+    let k = c .before .before .before .before .before .before .before .before .before .before .read-lmcs in
+    let t = taken (c .before .before .before .before .before .before) in
+    let x = c .before .before .before .before .before .read-flag in
+    let r = c .before .before .before .before .read-end in
+    refused-parts _ (c .refuse-lmcs2 .ensures)
+    (set-refused (now (b .args .bytes)) (setOf ApsKind.Lmcs (b .args .id) (b .args .chroma) zeroAlf (k .result .lmcs) zeroScaling) _ (x .result) (r .result) (x .ensures) (r .ensures) (lmcs-set (now (b .args .bytes)) (b .args .id) (b .args .chroma) (b .pre .1) (c .before .before .before .before .before .before .before .before .before .before .before .if1 .left) _ _ (t .0)) _ (c .before .before .end2 .given .1))
+
+returns-4 : tie.Need-returns-4
+returns-4 c =
+    let b = c .before .before .before .before .before .before .before .before in
+    let k = c .before .before .before .before .before .read-lmcs in
+    let e = answered (λ st. outcomeStop st (k .result .lmcs)) (c .before .before .stop2 .given .1) (k .ensures .0) in
+    refused-parts _ (c .refuse-lmcs3 .ensures) (lmcs-refused (now (b .args .bytes)) (b .args .id) (b .args .chroma) (b .pre .1) (c .before .before .before .before .before .before .if1 .left) _ e)
+
+pub lmcs-answer-spec : {M : Type 1} → statement M
+lmcs-answer-spec =
+    tie.close
+    (tie.spec
+    refuse-lmcs-requires
+    returns
+    read-lmcs-requires
+    enum-known-stop
+    read-flag-requires
+    add-read-end
+    read-end-requires
+    enum-known-end
+    enum-known-end-2
+    refuse-lmcs-requires-2
+    enum-known-stop-2
+    refuse-lmcs-requires-3
+    returns-2
+    returns-3
+    returns-4)
