@@ -15,6 +15,7 @@ mod rust_calls;
 mod sets;
 mod speed;
 mod tally;
+mod written;
 
 use std::process::ExitCode;
 
@@ -27,7 +28,7 @@ fn main() -> ExitCode {
         _ => (),
     }
     if parts.is_empty() {
-        parts = ["fields", "escapes", "sets", "speed"].map(String::from).to_vec();
+        parts = ["fields", "escapes", "sets", "written", "speed"].map(String::from).to_vec();
     }
     let mut rows = Vec::new();
     let mut times = Vec::new();
@@ -36,9 +37,10 @@ fn main() -> ExitCode {
             "fields" => rows.extend(fields::compare()),
             "escapes" => rows.extend(escapes::compare()),
             "sets" => rows.extend(sets::compare()),
+            "written" => rows.extend(written::compare()),
             "speed" => times = speed::measure(),
             _ => {
-                eprintln!("no part {part}: fields, escapes, sets, speed, boundaries, sample or replay");
+                eprintln!("no part {part}: fields, escapes, sets, written, speed, boundaries, sample or replay");
                 return ExitCode::from(2);
             }
         }

@@ -73,3 +73,15 @@ pub extern "C" fn rbsp_end(bytes: *const u8, len: usize) -> u32 {
     let read = aps::parse_aps_rbsp(unsafe { std::slice::from_raw_parts(bytes, len) });
     std::hint::black_box(read).is_err().into()
 }
+
+pub extern "C" fn rewrite(bytes: *const u8, len: usize, out: *mut u8, room: usize) -> u32 {
+    let bytes = unsafe { std::slice::from_raw_parts(bytes, len) };
+    let out = unsafe { std::slice::from_raw_parts_mut(out, room) };
+    match aps::parse_aps_rbsp(bytes).and_then(|set| aps::write_aps(&set)) {
+        Ok(written) if written.len() <= room => {
+            out[..written.len()].copy_from_slice(&written);
+            written.len() as u32
+        }
+        _ => 0,
+    }
+}

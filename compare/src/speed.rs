@@ -45,7 +45,12 @@ pub fn measure() -> Vec<Time> {
         times.push(ebsp_to_rbsp(format!("ebsp_to_rbsp of 65,536 {kind} bytes"), &bytes));
         times.push(rbsp_to_ebsp(format!("rbsp_to_ebsp of 65,536 {kind} bytes"), &bytes));
     }
-    times.extend(sets::inputs().iter().map(|(name, bytes)| sets::read(name, bytes)));
+    for (name, bytes) in sets::inputs() {
+        let read = sets::read(&name, &bytes);
+        let written = sets::write(&name, &bytes, &read);
+        times.push(read);
+        times.extend(written);
+    }
     times
 }
 

@@ -70,7 +70,7 @@ fn scaling(d: &VvcScalingListData) -> Vec<i64> {
 }
 
 /// Kind, id, the two flags, then the three records, of which the other two are 0: `numbers` of crates/aps_c/specs/Numbers.antt.
-fn numbers(set: &VvcAps) -> Numbers {
+pub fn numbers(set: &VvcAps) -> Numbers {
     let mut out = vec![
         set.aps_params_type.into(),
         set.aps_adaptation_parameter_set_id.into(),

@@ -12,6 +12,16 @@ pub mod raw {
         pub fn aps_rbsp_end(bytes: *const u8, len: usize, end: *mut u64) -> u32;
         pub fn aps_parse(unit: *const u8, len: usize, work: *mut u8, room: usize, set: *mut i64, end: *mut u64) -> u32;
         pub fn aps_parse_nal_header(unit: *const u8, len: usize, header: *mut u8) -> u32;
+        pub fn aps_write(set: *const i64, numbers: usize, out: *mut u8, room: usize, len: *mut u64) -> u32;
+        pub fn aps_write_nal(
+            set: *const i64,
+            numbers: usize,
+            unit_type: u8,
+            out: *mut u8,
+            room: usize,
+            len: *mut u64,
+        ) -> u32;
+        pub fn aps_rewrite(bytes: *const u8, len: usize, out: *mut u8, room: usize, written: *mut u64) -> u32;
     }
 }
 
@@ -100,4 +110,32 @@ pub fn nal_header(unit: &[u8]) -> Result<[u8; 5], u32> {
         code if header == [MARK as u8; 6] => Err(code),
         code => Err(ARRAY_CHANGED + code),
     }
+}
+
+/// How many bytes were written, or the refusal's number.
+fn sized(code: u32, len: u64) -> Result<usize, u32> {
+    match code {
+        0 => Ok(len as usize),
+        _ if len == MARK => Err(code),
+        _ => Err(ARRAY_CHANGED + code),
+    }
+}
+
+pub fn write(set: &[i64], out: &mut [u8]) -> Result<usize, u32> {
+    let mut len = MARK;
+    let code = unsafe { raw::aps_write(set.as_ptr(), set.len(), out.as_mut_ptr(), out.len(), &mut len) };
+    sized(code, len)
+}
+
+pub fn write_nal(set: &[i64], unit_type: u8, out: &mut [u8]) -> Result<usize, u32> {
+    let mut len = MARK;
+    let (numbers, room) = (set.len(), out.len());
+    let code = unsafe { raw::aps_write_nal(set.as_ptr(), numbers, unit_type, out.as_mut_ptr(), room, &mut len) };
+    sized(code, len)
+}
+
+pub fn rewrite(bytes: &[u8], out: &mut [u8]) -> Result<usize, u32> {
+    let mut len = MARK;
+    let code = unsafe { raw::aps_rewrite(bytes.as_ptr(), bytes.len(), out.as_mut_ptr(), out.len(), &mut len) };
+    sized(code, len)
 }

@@ -226,7 +226,7 @@ impl Maker<'_> {
 }
 
 /// x and y along the diagonals of 8x8, each from the bottom left up (H.266 6.5.2).
-fn diagonal_scan() -> Vec<(usize, usize)> {
+pub fn diagonal_scan() -> Vec<(usize, usize)> {
     let diagonal = |d: usize| (0..8).filter(move |&x| x <= d && d - x < 8).map(move |x| (x, d - x));
     (0..15).flat_map(diagonal).collect()
 }

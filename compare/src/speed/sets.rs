@@ -1,10 +1,10 @@
-//! Sets read from RBSPs: the Rust makes its records, the library its own.
+//! Sets read from RBSPs, and written again: the Rust makes its records, the library its own.
 
 use std::hint::black_box;
 use std::time::Instant;
 
 use super::{time, Run, Time};
-use crate::h266::aps::{self, parse_aps_rbsp};
+use crate::h266::aps::{self, parse_aps_rbsp, write_aps};
 use crate::library::sets::raw;
 use crate::random::Random;
 use crate::rust_calls;
@@ -62,4 +62,44 @@ pub fn read(name: &str, bytes: &[u8]) -> Time {
             },
         ],
     )
+}
+
+/// The set read and written again, and the time of the writing alone: of the library what is left of that without the reading, of the
+/// Rust its write of a set that stands ready.
+pub fn write(name: &str, bytes: &[u8], read: &Time) -> [Time; 2] {
+    let rust = black_box(rust_calls::rewrite as extern "C" fn(*const u8, usize, *mut u8, usize) -> u32);
+    let mut out = vec![0; 4_000];
+    let set = parse_aps_rbsp(bytes).expect("a set that the Rust wrote");
+    let room = out.len();
+    let to: *mut u8 = out.as_mut_ptr();
+    let both = time(
+        format!("{name}, read and written"),
+        [
+            &mut || calls(bytes, |b| parse_aps_rbsp(b).and_then(|set| write_aps(&set)).map_or(0, |w| w.len() as u64)),
+            &mut || calls(bytes, |b| rust(b.as_ptr(), b.len(), to, room).into()),
+            &mut || {
+                let mut len = 0;
+                let len: *mut u64 = &mut len;
+                calls(bytes, |b| unsafe {
+                    raw::aps_rewrite(b.as_ptr(), b.len(), to, room, len);
+                    *len
+                })
+            },
+        ],
+    );
+    let ready = time(
+        String::new(),
+        [
+            &mut || calls(bytes, |_| write_aps(black_box(&set)).map_or(0, |w| w.len() as u64)),
+            &mut || calls(bytes, |_| write_aps(black_box(&set)).map_or(0, |w| w.len() as u64)),
+            &mut || calls(bytes, |_| write_aps(black_box(&set)).map_or(0, |w| w.len() as u64)),
+        ],
+    );
+    let alone = Time {
+        name: format!("{name}, written"),
+        inlined: ready.inlined,
+        called: ready.called,
+        library: both.library - read.library,
+    };
+    [both, alone]
 }
