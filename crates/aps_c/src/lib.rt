@@ -20,6 +20,7 @@ ghost use Rattle.aps_c.specs.Codes.{code, given, placed, headed};
 ghost use Rattle.aps_c.specs.Numbers.{headerNumbers};
 
 mod numbers;
+mod set_of;
 
 fn number(e: Refusal) -> u32
     ensures { λ r. ⌜ r ≡ numberOf e ⌝ }
