@@ -74,6 +74,7 @@ pub extern "C" fn rbsp_end(bytes: *const u8, len: usize) -> u32 {
     std::hint::black_box(read).is_err().into()
 }
 
+#[inline(never)]
 pub extern "C" fn rewrite(bytes: *const u8, len: usize, out: *mut u8, room: usize) -> u32 {
     let bytes = unsafe { std::slice::from_raw_parts(bytes, len) };
     let out = unsafe { std::slice::from_raw_parts_mut(out, room) };

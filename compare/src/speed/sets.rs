@@ -87,14 +87,8 @@ pub fn write(name: &str, bytes: &[u8], read: &Time) -> [Time; 2] {
             },
         ],
     );
-    let ready = time(
-        String::new(),
-        [
-            &mut || calls(bytes, |_| write_aps(black_box(&set)).map_or(0, |w| w.len() as u64)),
-            &mut || calls(bytes, |_| write_aps(black_box(&set)).map_or(0, |w| w.len() as u64)),
-            &mut || calls(bytes, |_| write_aps(black_box(&set)).map_or(0, |w| w.len() as u64)),
-        ],
-    );
+    let ready = || calls(bytes, |_| write_aps(black_box(&set)).map_or(0, |w| w.len() as u64));
+    let ready = time(String::new(), [&mut || ready(), &mut || ready(), &mut || ready()]);
     let alone = Time {
         name: format!("{name}, written"),
         inlined: ready.inlined,

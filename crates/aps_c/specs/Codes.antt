@@ -1,13 +1,17 @@
 -- What an export returns for an outcome, and what it leaves in the arrays that are lent for the answer.
 use Prim.Native.Nat.{ℕ}
 use mathlib.Core.List.{List}
+use mathlib.Core.Bool.{cond}
 use lib.IntN.{ℤ}
 use lib.ListN.{set}
 use lib.Seq.{sets}
-use Rattle.bitstream.specs.Outcome.{Outcome, value, refused}
+use Rattle.bitstream.specs.Outcome.{Outcome, value, refused, _then_}
+use Rattle.aps.specs.Rbsp.{parseApsRbsp}
+use Rattle.aps.specs.Writing.{writeAps, writeApsNal}
 use Rattle.aps.specs.declared.aps.VvcAps.{VvcAps}
 use Rattle.aps.specs.declared.nal_header.VvcNalHeader.{VvcNalHeader}
 use Rattle.aps_c.specs.Numbers.{numbers, headerNumbers}
+use Rattle.aps_c.specs.SetOf.{isSet, setOf}
 
 -- 0 for a value, or the refusal's number
 unfoldable pub code : {A : Type 0} → Outcome A → ℕ
@@ -28,3 +32,14 @@ placed (refused e) before = before
 unfoldable pub headed : Outcome VvcNalHeader → List ℕ → List ℕ
 headed (value h p) before = sets before 0 (headerNumbers h)
 headed (refused e) before = before
+
+-- `aps_write` and `aps_write_nal`: 2 for numbers that are no set's
+unfoldable pub writeNumbers : List ℤ → List ℕ → Outcome (List ℕ)
+writeNumbers l out = cond (isSet l) (writeAps (setOf l) out) (refused 2)
+
+unfoldable pub writeUnit : List ℤ → ℕ → List ℕ → Outcome (List ℕ)
+writeUnit l type out = cond (isSet l) (writeApsNal (setOf l) type out) (refused 2)
+
+-- `aps_rewrite`: the set that is read, written
+unfoldable pub rewrite : List ℕ → List ℕ → Outcome (List ℕ)
+rewrite s out = parseApsRbsp s then λ a q. writeAps a out

@@ -1,22 +1,30 @@
 // The calls of aps for C or Rust to link: 0 with the answer in the lent arrays, or a refusal's number with the arrays as they were.
 use crate::numbers::NUMBERS;
 use crate::numbers::put_set;
+use crate::set_of::is_set;
+use crate::set_of::set_of;
 use aps::aps::ApsOutcome;
 use aps::aps::ApsReading;
 use aps::aps::parse_aps;
 use aps::aps::parse_aps_rbsp;
+use aps::aps_writer::write_aps;
+use aps::aps_writer::write_aps_nal;
 use aps::nal_header::HeaderRead;
 use aps::nal_header::VvcNalHeader;
 use aps::nal_header::parse_nal_header;
 use bitstream::Refusal;
+use bitstream::nal::Size;
 ghost use mathlib.Core.Path.{_≡_};
+ghost use mathlib.Core.List.{List};
+ghost use Prim.Native.Nat.{ℕ};
 ghost use lib.ListN.{length};
 ghost use lib.Seq.{sets};
-ghost use Rattle.bitstream.specs.Outcome.{number as numberOf};
+ghost use Rattle.bitstream.specs.Outcome.{number as numberOf, left};
+ghost use Rattle.bitstream.specs.Escapes.{outcomeSize};
 ghost use Rattle.aps.specs.Reading.{outcomeAps};
 ghost use Rattle.aps.specs.Rbsp.{parseApsRbsp};
 ghost use Rattle.aps.specs.Unit.{outcomeH, parseNalHeader, parseAps, workAfter};
-ghost use Rattle.aps_c.specs.Codes.{code, given, placed, headed};
+ghost use Rattle.aps_c.specs.Codes.{code, given, placed, headed, writeNumbers, writeUnit, rewrite};
 ghost use Rattle.aps_c.specs.Numbers.{headerNumbers};
 
 mod numbers;
@@ -115,4 +123,59 @@ pub extern "C" fn aps_parse(
     ensures work { λ _. ⌜ now (work .exit) ≡ workAfter (now (unit .entry)) (now (work .entry)) ⌝ }
 {
     answered(parse_aps(unit, work), set, end)
+}
+
+// How many bytes were written.
+fn sized(size: Size, len: &mut [u64; 1]) -> u32
+    ensures code { λ r. ⌜ (l : List ℕ) → r ≡ code (outcomeSize size l) ⌝ }
+    ensures len { λ _. ⌜ (l : List ℕ) → now (len .exit) ≡ placed (outcomeSize size l) (now (len .entry)) ⌝ }
+{
+    match size {
+        Size::Bytes(n) => {
+            len[0] = n as u64;
+            0
+        }
+        Size::Refused(e) => number(e),
+    }
+}
+
+// A set as an RBSP at the start of out, and its length.
+#[no_mangle]
+pub extern "C" fn aps_write(set: &[i64], out: &mut [u8], len: &mut [u64; 1]) -> u32
+    ensures code { λ r. ⌜ r ≡ code (writeNumbers (now (set .entry)) (now (out .entry))) ⌝ }
+    ensures out { λ _. ⌜ now (out .exit) ≡ left (now (out .entry)) (writeNumbers (now (set .entry)) (now (out .entry))) ⌝ }
+    ensures len { λ _. ⌜ now (len .exit) ≡ placed (writeNumbers (now (set .entry)) (now (out .entry))) (now (len .entry)) ⌝ }
+{
+    if !is_set(set) {
+        return 2;
+    }
+    sized(write_aps(set_of(set), out), len)
+}
+
+// A set as a unit at the start of out, and its length.
+#[no_mangle]
+pub extern "C" fn aps_write_nal(set: &[i64], unit_type: u8, out: &mut [u8], len: &mut [u64; 1]) -> u32
+    ensures code { λ r. ⌜ r ≡ code (writeUnit (now (set .entry)) «unit_type» (now (out .entry))) ⌝ }
+    ensures out { λ _. ⌜ now (out .exit) ≡ left (now (out .entry)) (writeUnit (now (set .entry)) «unit_type» (now (out .entry))) ⌝ }
+    ensures len { λ _. ⌜ now (len .exit) ≡ placed (writeUnit (now (set .entry)) «unit_type» (now (out .entry))) (now (len .entry)) ⌝ }
+{
+    if !is_set(set) {
+        return 2;
+    }
+    sized(write_aps_nal(set_of(set), unit_type, out), len)
+}
+
+// A set read from an RBSP and written again at the start of out, and its length.
+#[no_mangle]
+pub extern "C" fn aps_rewrite(bytes: &[u8], out: &mut [u8], len: &mut [u64; 1]) -> u32
+    ensures code { λ r. ⌜ r ≡ code (rewrite (now (bytes .entry)) (now (out .entry))) ⌝ }
+    ensures out { λ _. ⌜ now (out .exit) ≡ left (now (out .entry)) (rewrite (now (bytes .entry)) (now (out .entry))) ⌝ }
+    ensures len { λ _. ⌜ now (len .exit) ≡ placed (rewrite (now (bytes .entry)) (now (out .entry))) (now (len .entry)) ⌝ }
+{
+    let reading = parse_aps_rbsp(bytes);
+    let outcome = reading.outcome;
+    match outcome {
+        ApsOutcome::Read(_) => sized(write_aps(reading.set, out), len),
+        ApsOutcome::Refused(e) => number(e),
+    }
 }
