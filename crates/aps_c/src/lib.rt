@@ -127,8 +127,8 @@ pub extern "C" fn aps_parse(
 
 // How many bytes were written.
 fn sized(size: Size, len: &mut [u64; 1]) -> u32
-    ensures code { λ r. ⌜ (l : List ℕ) → r ≡ code (outcomeSize size l) ⌝ }
-    ensures len { λ _. ⌜ (l : List ℕ) → now (len .exit) ≡ placed (outcomeSize size l) (now (len .entry)) ⌝ }
+    ensures code { λ r. ⌜ ((l : List ℕ) → r ≡ code (outcomeSize size l)) ⌝ }
+    ensures len { λ _. ⌜ ((l : List ℕ) → now (len .exit) ≡ placed (outcomeSize size l) (now (len .entry))) ⌝ }
 {
     match size {
         Size::Bytes(n) => {
@@ -154,7 +154,12 @@ pub extern "C" fn aps_write(set: &[i64], out: &mut [u8], len: &mut [u64; 1]) -> 
 
 // A set as a unit at the start of out, and its length.
 #[no_mangle]
-pub extern "C" fn aps_write_nal(set: &[i64], unit_type: u8, out: &mut [u8], len: &mut [u64; 1]) -> u32
+pub extern "C" fn aps_write_nal(
+    set: &[i64],
+    unit_type: u8,
+    out: &mut [u8],
+    len: &mut [u64; 1],
+) -> u32
     ensures code { λ r. ⌜ r ≡ code (writeUnit (now (set .entry)) «unit_type» (now (out .entry))) ⌝ }
     ensures out { λ _. ⌜ now (out .exit) ≡ left (now (out .entry)) (writeUnit (now (set .entry)) «unit_type» (now (out .entry))) ⌝ }
     ensures len { λ _. ⌜ now (len .exit) ≡ placed (writeUnit (now (set .entry)) «unit_type» (now (out .entry))) (now (len .entry)) ⌝ }
