@@ -1,4 +1,7 @@
-//! The sample that the program `replay_sets` reads, a name and an RBSP to a line, and what the program must write: the Rust's answers.
+//! The sample that the program `replay_sets` reads, a name and an RBSP to a line, some with a change of one number after it, and what the
+//! program must write: the Rust's answers.
+
+mod changes;
 
 use crate::bit_writer::BitWriter;
 use crate::expected;
@@ -17,6 +20,9 @@ pub fn print_sample() {
         let hex: String = case.rbsp.iter().map(|b| format!("{b:02X}")).collect();
         println!("{}: {hex}", case.name);
     }
+    for change in changes::sample() {
+        println!("{}", change.line());
+    }
 }
 
 /// The bit where reading ended and the numbers that are not 0, after the index of the first in a row; or the refusal's number.
@@ -27,6 +33,9 @@ pub fn print_answers() {
             Err(e) => format!("refused {e}"),
         };
         println!("{}: {answer}", case.name);
+    }
+    for change in changes::sample() {
+        println!("{}", change.answer());
     }
 }
 

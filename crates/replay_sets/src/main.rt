@@ -1,9 +1,11 @@
-// Reads sets from standard input, a name and an RBSP in hexadecimal digits to a line, and writes each name with the answer.
+// Reads sets from standard input, a name and an RBSP in hexadecimal digits to a line, and writes each name with the answer: the set as numbers, or, with one number changed, its bytes.
 mod print;
+mod write;
 
 use crate::print::number;
 use crate::print::runs;
 use crate::print::text;
+use crate::write::change;
 use aps_c::aps_parse_rbsp;
 ghost use Prim.Native.Nat.{_<_, _≤_};
 ghost use lib.ListN.{length};
@@ -65,21 +67,29 @@ fn answer(rbsp: &[u8]) {
     text(b"\n");
 }
 
-fn decoded(digits: &[u8]) {
+fn decoded(digits: &[u8], changed: &[u8]) {
     let mut rbsp = io::buffer();
     let n = decode(digits, &mut rbsp);
-    answer(&rbsp[..n]);
+    if changed.len() == 0 {
+        answer(&rbsp[..n]);
+        return;
+    }
+    let mut bytes = [0u8; 9];
+    let m = decode(changed, &mut bytes);
+    change(&rbsp[..n], &bytes[..m]);
 }
 
-// A name, a colon, a space and digits.
+// A name, a colon, a space and digits; then a change of one number and the room to write into, or nothing.
 fn line(s: &[u8]) {
     let colon = find(s, 0, b':');
     if s.len() - colon < 2 {
         return;
     }
     let digits = colon + 2;
+    let space = find(s, digits, b' ');
+    let changed = least(space + 1, s.len());
     text(&s[..digits]);
-    decoded(&s[digits..]);
+    decoded(&s[digits..space], &s[changed..]);
 }
 
 fn lines(s: &[u8]) {

@@ -1,4 +1,6 @@
-// Words and numbers to standard output.
+// Words, numbers and bytes to standard output.
+ghost use Prim.Native.Nat.{_<_};
+
 pub fn text(s: &[u8]) {
     io::write_all(1, s);
 }
@@ -39,6 +41,22 @@ pub fn runs(numbers: &[i64; 3122]) {
             item(i, first, v);
         }
         first = v == 0;
+        i += 1;
+    }
+}
+
+// The hexadecimal digit of a value below 16.
+fn hex_digit(v: u8) -> u8
+    requires { ⌜ v < 16 ⌝ }
+{
+    if v < 10 { b'0' + v } else { b'A' + (v - 10) }
+}
+
+pub fn hexadecimal(s: &[u8]) {
+    let mut i = 0;
+    while i < s.len() {
+        let digits = [hex_digit(s[i] / 16), hex_digit(s[i] % 16)];
+        text(&digits);
         i += 1;
     }
 }

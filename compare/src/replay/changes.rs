@@ -1,0 +1,189 @@
+//! Sets with one number changed, written into an output of some length: what the Rust writes.
+
+use crate::expected;
+use crate::h266::aps;
+use crate::random::Random;
+use crate::sets::extended;
+use crate::sets::make::{Maker, Style, STYLES};
+
+pub struct Change {
+    name: String,
+    rbsp: Vec<u8>,
+    index: usize,
+    value: i64,
+    room: usize,
+}
+
+fn hex(bytes: &[u8]) -> String {
+    bytes.iter().map(|b| format!("{b:02X}")).collect()
+}
+
+impl Change {
+    /// The index, the sign, the magnitude and the room, in 2, 1, 4 and 2 bytes.
+    pub fn line(&self) -> String {
+        let sign = u8::from(self.value < 0);
+        let change = format!(
+            "{:04X}{sign:02X}{:08X}{:04X}",
+            self.index,
+            self.value.unsigned_abs(),
+            self.room
+        );
+        format!("{}: {} {change}", self.name, hex(&self.rbsp))
+    }
+
+    fn numbers(&self) -> Vec<i64> {
+        let (numbers, _) = expected::sets::parse_rbsp(&self.rbsp).expect("a set to change");
+        let mut set = numbers.0;
+        set[self.index] = self.value;
+        set
+    }
+
+    pub fn answer(&self) -> String {
+        let set = self.numbers();
+        let before = vec![0; self.room];
+        let shown = |(answer, after): (Result<usize, u32>, Vec<u8>)| match answer {
+            Ok(n) => format!("{n} bytes {}", hex(&after[..n])),
+            Err(e) => format!("refused {e}"),
+        };
+        let rbsp = shown(expected::written::write(&set, &before));
+        let unit = shown(expected::written::write_nal(&set, 17, &before));
+        format!("{}: {rbsp}, unit {unit}", self.name)
+    }
+}
+
+const NOTHING: [u8; 2] = [0x00, 0x10];
+const ONE_BIN: [u8; 3] = [0x20, 0x42, 0x12];
+const COPIES: [u8; 4] = [0x40, 0x7F, 0xFF, 0xE8];
+
+fn made(kind: u8, style: Style, seed: u64) -> Vec<u8> {
+    let mut random = Random::new(seed);
+    let set = Maker {
+        random: &mut random,
+        style,
+    }
+    .set(kind);
+    aps::write_aps(&set).expect("a set in range is written")
+}
+
+pub fn sample() -> Vec<Change> {
+    let mut out = Vec::new();
+    let mut of = |name: &str, rbsp: &[u8], index: usize, value: i64, room: usize| {
+        out.push(Change {
+            name: format!("written, {name}"),
+            rbsp: rbsp.to_vec(),
+            index,
+            value,
+            room,
+        });
+    };
+    for room in [0, 1, 2, 3, 4, 5] {
+        of(&format!("ALF, nothing sent, {room} bytes"), &NOTHING, 0, 0, room);
+    }
+    of("ALF, extension flag 1", &extended(&NOTHING), 3, 1, 100);
+    of("ALF, extension flag 1, no room", &extended(&NOTHING), 3, 1, 0);
+    of("ALF, extension flag 1 and id 8", &extended(&NOTHING), 1, 8, 100);
+    for id in [7, 8, 31, 255] {
+        of(&format!("ALF id {id}"), &NOTHING, 1, id, 100);
+        of(&format!("scaling id {id}"), &COPIES, 1, id, 100);
+    }
+    for id in [3, 4, 255] {
+        of(&format!("LMCS id {id}"), &ONE_BIN, 1, id, 100);
+    }
+    of("id 8 and no room", &NOTHING, 1, 8, 0);
+    for (what, index) in [
+        ("a luma clip flag", 8),
+        ("a luma count", 9),
+        ("a luma index", 34),
+        ("a luma magnitude", 334),
+        ("a luma sign", 634),
+        ("a luma clip", 934),
+        ("a chroma flag without chroma", 5),
+        ("a chroma count", 936),
+        ("a chroma magnitude", 984),
+        ("a chroma clip", 1080),
+        ("a Cb magnitude", 1109),
+        ("a Cr sign", 1194),
+        ("a luma flag alone", 4),
+        ("a number of LMCS", 1195),
+        ("a number of scaling", 3121),
+    ] {
+        of(&format!("ALF, nothing sent, with {what}"), &NOTHING, index, 1, 100);
+    }
+    let alf = made(0, Style::Typical, 30);
+    for (what, index, value) in [
+        ("as it is", 0, 0),
+        ("luma magnitude 128", 35, 128),
+        ("luma magnitude 129", 35, 129),
+        ("luma count 25", 9, 25),
+        ("luma count 4,294,967,295", 9, 4_294_967_295),
+        ("a luma index of 255", 10, 255),
+        ("a surplus luma row", 334, 1),
+        ("a surplus sign", 634, 1),
+        ("a surplus clip", 934, 3),
+        ("a clip of 4", 635, 4),
+        ("a chroma count of 8", 936, 8),
+    ] {
+        of(&format!("ALF {what}"), &alf, index, value, 3_000);
+    }
+    for (what, index, value) in [
+        ("a sign at 0", 1214, 1),
+        ("a codeword of 1", 1198, 1),
+        ("a codeword of 2", 1198, 2),
+        ("a bin outside", 1199, 1),
+        ("a sign outside", 1229, 1),
+        ("min 1", 1195, 1),
+        ("min 16", 1195, 16),
+        ("delta max 14", 1196, 14),
+        ("delta max 16", 1196, 16),
+        ("precision-1 14", 1197, 14),
+        ("precision-1 15", 1197, 15),
+        ("chroma delta without chroma", 1230, 1),
+        ("chroma sign without chroma", 1231, 1),
+        ("chroma flag", 2, 1),
+    ] {
+        of(&format!("LMCS, {what}"), &ONE_BIN, index, value, 100);
+    }
+    for (what, index, value) in [
+        ("an uncoded id not copied", 1232, 0),
+        ("an uncoded id predicted", 1260, 1),
+        ("an uncoded delta", 1288, 7),
+        ("a copied id predicted", 1262, 1),
+        ("a delta for id 2", 1290, 1),
+        ("a delta for id 8", 1296, 1),
+        ("a delta of 3 for id 5", 1293, 3),
+        ("a delta of 4 for id 5", 1293, 4),
+        ("a copied DC", 1329, 5),
+        ("a copied list", 1330 + 64 * 2, 5),
+        ("id 2 not copied", 1234, 0),
+        ("id 27 not copied", 1259, 0),
+        ("chroma flag", 2, 1),
+    ] {
+        of(&format!("scaling, {what}"), &COPIES, index, value, 100);
+    }
+    let scaling = made(2, Style::Full, 31);
+    let list = |id: usize, i: usize| 1330 + 64 * id + i;
+    for (what, index, value) in [
+        ("as it is", 0, 2),
+        ("DC 127", 1329, 127),
+        ("DC 128", 1329, 128),
+        ("DC -128", 1329, -128),
+        ("DC -129", 1329, -129),
+        ("the smallest entry", list(2, 3), -2_147_483_648),
+        ("the largest entry", list(2, 3), 2_147_483_647),
+        ("an entry past the matrix of id 0", list(0, 4), 9),
+        ("an entry past the matrix of id 7", list(7, 16), 9),
+        ("the last unread entry of id 27", list(27, 63), 9_999),
+        ("the first unread entry of id 26", list(26, 39), 9_999),
+    ] {
+        of(&format!("scaling {what}"), &scaling, index, value, 3_000);
+    }
+    for (kind, name) in [(0, "ALF"), (1, "LMCS"), (2, "scaling")] {
+        for (style, how) in STYLES.into_iter().zip(["sparse", "typical", "extreme", "full"]) {
+            let rbsp = made(kind, style, 40 + u64::from(kind));
+            for room in [rbsp.len(), rbsp.len() - 1, rbsp.len() + 2, rbsp.len() + 40] {
+                of(&format!("{how} {name}, {room} bytes"), &rbsp, 0, kind.into(), room);
+            }
+        }
+    }
+    out
+}
