@@ -24,11 +24,11 @@ pub mod Steps
 pub mod StopLaws
 pub mod WriteSteps
 pub mod PutLaws
-pub mod ScalingWrites
 pub mod AlfSteps
 pub mod AlternativeSteps
 pub mod LmcsSteps
 pub mod ScalingKeep
 pub mod ScalingSteps
+pub mod ScalingWrites
 pub mod RbspSteps
 pub mod UnitSteps

@@ -4,13 +4,14 @@ use mathlib.Core.Bool.{Bool, true, false, cond, not, _&&_, _||_}
 use mathlib.Core.List.{List, [], _∷_}
 use Prim.Native.Nat.{ℕ, zero, suc, _+_, _-_, _*_, _≤_, _<_}
 use native.Mathlib.Nat.{sub-zero}
+use native.Mathlib.Numerals.{add-one}
 use native.Mathlib.Omega.{arith}
 use borrow.Author.Tests.{ltb-true, ltb-false, eq-eqb, ne-eqb}
 use lib.Dec.{ltb, eqb, lit<}
 use lib.Count.{leadingZeros}
 use lib.IntN.{ℤ, pos, negsuc, natAbs, negℤ, _+ℤ_, _-ℤ_}
 use lib.Signed.{mag, ltZ, natAbs-le}
-use lib.ListN.{length, getD, take, drop, length-drop}
+use lib.ListN.{length, getD, take, drop, length-drop, drop-of-length-le}
 use lib.Seq.{drop-cons, length-take-le, getD-take, getD-drop, drop-length}
 use mir.Syntax.{w32, w64}
 use mir.Val.{toZ, ofZ, SFits}
@@ -30,8 +31,9 @@ use Rattle.aps.proofs.CodecLaws.{never-true}
 use Rattle.aps.proofs.ElementLaws.{zeros-mono}
 use Rattle.aps.proofs.SignedLaws.{add-abs}
 use Rattle.aps.proofs.ScalingLaws.{eqZ-only, just-is, noEntry-is}
-use Rattle.aps.proofs.StopLaws.{after-same}
-use Rattle.aps.proofs.WriteSteps.{writes-via, writes-▷, writes-nil, after-then, wrote-more, wrote-when, wrote-none, wrote-via, wrote-bad, wrote-▷}
+use Rattle.aps.proofs.StopLaws.{after-same, stops-more}
+use Rattle.aps.proofs.ScalingSteps.{entries-le}
+use Rattle.aps.proofs.WriteSteps.{writes-via, writes-▷, writes-nil, after-then, spans-then, spans-more, wrote-more, wrote-when, wrote-none, wrote-via, wrote-bad, wrote-▷}
 
 -- ---- i32 values
 
@@ -120,3 +122,72 @@ maxIdDelta-word id h = omega (arith, maxIdDelta-few id h)
 pub delta-bits : (id : ℕ) → id < 28 → 2 * ueZeros (maxIdDelta id) + 1 ≤ 9
 unfolding ueZeros leadingZeros
 delta-bits id h = let z : ueZeros (maxIdDelta id) ≤ 4 = zeros-mono (maxIdDelta id) 19 (maxIdDelta-few id h) (lit< tt) in omega arith
+-- ---- the sums of a list
+
+module _ (id i : ℕ) (prev : ℤ) (out : List ℕ) (p : ℕ) where
+  writes-none-left : writes (sums id i 0 prev) [] out p ≡ value out p
+  unfolding sums
+  writes-none-left = writes-nil (λ j. step prev) 0 out p
+
+  writes-sums : (n : ℕ) (v : ℤ) (vs : List ℤ)
+      → writes (sums id i (suc n) prev) (v ∷ vs) out p ≡ (writes (stepAt id i prev) v out p then λ o q. writes (sums id (suc i) n v) vs o q)
+  unfolding sums
+  writes-sums n v vs =
+      writes-via cons uncons someLeft (stepAt id i prev ▷ λ v. sums id (suc i) n v) (v ∷ vs) out p
+      ∙ writes-▷ (stepAt id i prev) (λ v. sums id (suc i) n v) v vs out p
+
+-- The loop over the sums vs: the first i are written, the last of them is prev, and what is left to write makes it whole.
+pub record Stepped (id n : ℕ) (dc : ℤ) (vs : List ℤ) (from : Stop) (out : List ℕ) (i : ℕ) (prev : ℤ) (at : Stop) (now : List ℕ) : Type 0 where
+  pub left : after at (writes (sums id i (n - i) prev) (drop i vs) now) ≡ after from (writes (sums id 0 n dc) vs out)
+  pub near : Spans from at (17 * i)
+  pub count : i ≤ n
+
+module _ (id n : ℕ) (dc : ℤ) (vs : List ℤ) (from : Stop) (out : List ℕ) where
+  pub stepped-start : Stepped id n dc vs from out 0 dc from out
+  stepped-start = record { left = rw (sub-zero n); near = λ m s. stops-more from m (m + 17 * 0) s (omega arith); count = omega arith }
+
+  module _ (i : ℕ) (prev : ℤ) (at : Stop) (now : List ℕ) (S : Stepped id n dc vs from out i prev at now) where
+    pub stepped-more : (v : ℤ) (at′ : Stop) (now′ : List ℕ) → i < n → drop i vs ≡ v ∷ drop (suc i) vs → Wrote (stepAt id i prev) v 17 at at′ now now′
+        → Stepped id n dc vs from out (i + 1) v at′ now′
+    stepped-more v at′ now′ h e w =
+        let m : n - i ≡ suc (n - suc i) = omega arith in
+        let f : after at′ (writes (sums id (suc i) (n - suc i) v) (drop (suc i) vs) now′) ≡ after from (writes (sums id 0 n dc) vs out)
+        = sym (after-then at at′ now′ (writes (stepAt id i prev) v now) (λ o q. writes (sums id (suc i) (n - suc i) v) (drop (suc i) vs) o q) (w .answer))
+        ∙ sym (after-same at _ _ (λ p. writes-sums id i prev now p (n - suc i) v (drop (suc i) vs)))
+        ∙ (rw (m, e) at (S .left)) in
+        record {
+          left = rw (add-one i) f;
+          near = spans-more from at′ (17 * i + 17) (17 * (i + 1)) (omega arith) (spans-then from at at′ (17 * i) 17 (S .near) (w .within));
+          count = omega arith;
+        }
+
+    pub stepped-done : n ≤ i → n ≤ 64 → length vs ≡ n → Wrote (sums id 0 n dc) vs 1088 from at out now
+    stepped-done h k e =
+        let m : n - i ≡ 0 = omega arith in
+        let d : drop i vs ≡ [] = drop-of-length-le vs {i = i} (omega arith) in
+        record {
+          answer = stays at ∙ sym (after-same at _ _ (λ p. writes-none-left id i prev now p)) ∙ (rw (m, d) at (S .left));
+          within = spans-more from at (17 * i) 1088 (omega (arith, S .count)) (S .near);
+        }
+      where
+        stays : (at : Stop) → outcomeStop at now ≡ after at (λ p. value now p)
+        stays (Stop.End q) = refl
+        stays (Stop.Refused n) = refl
+
+-- the list of an id in the flat array
+module _ (id : ℕ) (list : List ℤ) (known : id < 28) (size : length list ≡ 1792) where
+  abbrev pub row : List ℤ
+  row = take (entries id) (take 64 (drop (id * 64) list))
+
+  whole-row : length (take 64 (drop (id * 64) list)) ≡ 64
+  whole-row = length-take-le 64 (drop (id * 64) list) (omega (arith, length-drop (id * 64) list))
+
+  pub length-row : length row ≡ entries id
+  length-row = length-take-le (entries id) (take 64 (drop (id * 64) list)) (omega (arith, entries-le id, whole-row))
+
+  pub row-cons : (i : ℕ) → i < entries id → drop i row ≡ getD list (id * 64 + i) (pos 0) ∷ drop (suc i) row
+  row-cons i h =
+      let e : getD row i (pos 0) ≡ getD list (id * 64 + i) (pos 0)
+      = getD-take (entries id) (take 64 (drop (id * 64) list)) i (pos 0) h ∙ getD-take 64 (drop (id * 64) list) i (pos 0) (omega (arith, entries-le id)) ∙ getD-drop (id * 64) list i (pos 0) in
+      rw (← e) (drop-cons row i (pos 0) (omega (arith, length-row)))
+
