@@ -23,7 +23,7 @@ use Rattle.aps.specs.Codec.{Codec, _▷_, via, Inferred, when}
 use Rattle.aps.specs.Elements.{flag, seIn, ueTo, noFlag, noNumber, noPair}
 use Rattle.aps.specs.ScalingSyntax.{skipped, entries, maxIdDelta, idCoded, eqZ, just, cons, uncons, someLeft, step, stepAt, sums, Entry, dcAt, deltaAt, coefficients, noEntries, entrySyntax, noEntry, idAt, scalingSyntax, looked, tabulate, look}
 use Rattle.aps.specs.Reading.{outcomeStop}
-use Rattle.aps.specs.Stops.{after, Spans}
+use Rattle.aps.specs.Stops.{after, StopsBy, Spans}
 use Rattle.aps.specs.Writing.{writes, Wrote, unsent}
 use Rattle.aps.specs.declared.fields.Stop.{Stop}
 use Rattle.aps.specs.declared.fields.Stop.the-variants as Stop
@@ -190,4 +190,60 @@ module _ (id : ℕ) (list : List ℤ) (known : id < 28) (size : length list ≡ 
       let e : getD row i (pos 0) ≡ getD list (id * 64 + i) (pos 0)
       = getD-take (entries id) (take 64 (drop (id * 64) list)) i (pos 0) h ∙ getD-take 64 (drop (id * 64) list) i (pos 0) (omega (arith, entries-le id)) ∙ getD-drop (id * 64) list i (pos 0) in
       rw (← e) (drop-cons row i (pos 0) (omega (arith, length-row)))
+
+-- ---- one id
+
+-- where nothing is sent and what is inferred is there
+still : (to : Stop) → to ≡ unsent to true
+still (Stop.End p) = refl
+still (Stop.Refused e) = refl
+
+pub unsent-stops : (from : Stop) (b : Bool) (m : ℕ) → StopsBy from m → StopsBy (unsent from b) m
+unsent-stops (Stop.End p) true m s = s
+unsent-stops (Stop.End p) false m s = tt
+unsent-stops (Stop.Refused e) b m s = tt
+
+module _ (id : ℕ) {copy : Bool} (pred : Bool) (delta : ℕ) (dc : ℤ) (whole : List ℤ) {from a b to : Stop} {out out₁ out₂ : List ℕ} (first : Wrote flag copy 1 from a out out₁) where
+  -- of a copy the delta alone is sent
+  pub entry-copied : copy ≡ true → b ≡ unsent a (not pred) → Wrote (deltaAt id true) delta 9 b to out₁ out₂
+      → Wrote (entrySyntax id) (looked true id copy pred delta dc whole) 1116 from to out out₂
+  unfolding entrySyntax looked idCoded
+  entry-copied e n w =
+      rw e
+      (wrote-more (entrySyntax id) (true, (pred, (delta, (pos 0, [])))) 10 1116 (omega arith)
+      (wrote-▷ flag _ true (pred, (delta, (pos 0, []))) 1 9 (rw e at first)
+      (wrote-▷ (when false noFlag flag) _ pred (delta, (pos 0, [])) 0 9 (wrote-none noFlag flag pred a b out₁ n)
+      (wrote-▷ (deltaAt id true) _ delta (pos 0, []) 9 0 w
+      (wrote-none (noPair (just (pos 0)) noEntries) (coefficients id) (pos 0, []) to to out₂ (still to))))))
+
+  pub entry-listed : {c : Stop} {out₃ out₄ : List ℕ} → copy ≡ false → Wrote flag pred 1 a b out₁ out₂ → Wrote (deltaAt id pred) delta 9 b c out₂ out₃
+      → Wrote (coefficients id) (cond (ltb 13 id) dc (pos 0), take (entries id) whole) 1105 c to out₃ out₄
+      → Wrote (entrySyntax id) (looked true id copy pred delta dc whole) 1116 from to out out₄
+  unfolding entrySyntax looked idCoded
+  entry-listed e v w x =
+      let list : ℤ × List ℤ = (cond (ltb 13 id) dc (pos 0), take (entries id) whole) in
+      rw e
+      (wrote-▷ flag _ false (pred, (delta, list)) 1 1115 (rw e at first)
+      (wrote-▷ (when true noFlag flag) _ pred (delta, list) 1 1114 (wrote-when flag pred 1 noFlag v)
+      (wrote-▷ (deltaAt id pred) _ delta list 9 1105 w
+      (wrote-when (coefficients id) list 1105 (noPair (just (pos 0)) noEntries) x))))
+
+all-coded : (id : ℕ) → idCoded true id ≡ true
+unfolding idCoded
+all-coded id = refl
+
+module _ (chroma : Bool) (id : ℕ) (copy pred : Bool) (delta : ℕ) (dc : ℤ) (whole : List ℤ) where
+  looked-coded : idCoded chroma id ≡ true → looked true id copy pred delta dc whole ≡ looked chroma id copy pred delta dc whole
+  unfolding looked
+  looked-coded e = rw (e, all-coded id)
+
+  pub id-coded : {from to : Stop} {out out′ : List ℕ} → idCoded chroma id ≡ true → Wrote (entrySyntax id) (looked true id copy pred delta dc whole) 1116 from to out out′
+      → Wrote (idAt chroma id) (looked chroma id copy pred delta dc whole) 1116 from to out out′
+  id-coded e w = when-sent noEntry (entrySyntax id) (looked chroma id copy pred delta dc whole) 1116 e (rw (looked-coded e) at w)
+
+-- of an uncoded id nothing is sent
+pub id-uncoded : (chroma : Bool) (id : ℕ) (copy pred : Bool) (delta : ℕ) (dc : ℤ) (whole : List ℤ) {from : Stop} {out : List ℕ} → idCoded chroma id ≡ false
+    → Wrote (idAt chroma id) (looked chroma id copy pred delta dc whole) 1116 from from out out
+unfolding looked
+id-uncoded chroma id copy pred delta dc whole {from} e = rw e (when-unsent noEntry (entrySyntax id) (noEntry .default) 1116 refl (still from ∙ ap (unsent from) (sym (noEntry-is .itself))))
 
