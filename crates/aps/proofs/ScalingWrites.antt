@@ -1,6 +1,6 @@
 -- What is written of scaling_list_data( ): its steps, the DC, the delta, one id, and the loops over them.
 use mathlib.Core.Path.{_≡_, refl, sym, ap, _∙_}
-use mathlib.Core.Bool.{Bool, true, false, cond, not, _&&_, _||_}
+use mathlib.Core.Bool.{Bool, true, false, cond, not}
 use mathlib.Core.List.{List, [], _∷_}
 use Prim.Native.Nat.{ℕ, zero, suc, _+_, _-_, _*_, _≤_, _<_}
 use native.Mathlib.Nat.{sub-zero}
@@ -10,30 +10,31 @@ use borrow.Author.Tests.{ltb-true, ltb-false, eq-eqb, ne-eqb}
 use lib.Dec.{ltb, eqb, lit<}
 use lib.Count.{leadingZeros}
 use lib.IntN.{ℤ, pos, negsuc, natAbs, negℤ, _+ℤ_, _-ℤ_}
-use lib.Signed.{mag, ltZ, natAbs-le}
+use lib.Signed.{ltZ, natAbs-le}
 use lib.ListN.{length, getD, take, drop, length-drop, drop-of-length-le}
-use lib.Seq.{drop-cons, length-take-le, getD-take, getD-drop, drop-length}
+use lib.Seq.{drop-cons, length-take-le, getD-take, getD-drop}
 use mir.Syntax.{w32, w64}
 use mir.Val.{toZ, ofZ, SFits}
 use mir.Facts.{toZ-ofZ}
 use Rattle.bitstream.specs.Outcome.{value, _then_}
 use Rattle.bitstream.specs.Fields.{ueZeros}
 use Rattle.bitstream.proofs.Signed.{wide-is}
-use Rattle.aps.specs.Codec.{Codec, _▷_, via, Inferred, when}
-use Rattle.aps.specs.Elements.{flag, seIn, ueTo, noFlag, noNumber, noPair}
-use Rattle.aps.specs.ScalingSyntax.{skipped, entries, maxIdDelta, idCoded, eqZ, just, cons, uncons, someLeft, step, stepAt, sums, Entry, dcAt, deltaAt, coefficients, noEntries, entrySyntax, noEntry, idAt, scalingSyntax, looked, tabulate, look}
+use Rattle.aps.specs.Codec.{Codec, _▷_, Inferred, when}
+use Rattle.aps.specs.Elements.{flag, noFlag, noPair}
+use Rattle.aps.specs.ScalingSyntax.{skipped, entries, maxIdDelta, idCoded, eqZ, just, cons, uncons, someLeft, step, stepAt, sums, Entry, deltaAt, coefficients, noEntries, entrySyntax, noEntry, idAt, scalingSyntax, looked, tabulate, look}
 use Rattle.aps.specs.Reading.{outcomeStop}
 use Rattle.aps.specs.Stops.{after, StopsBy, Spans}
 use Rattle.aps.specs.Writing.{writes, Wrote, unsent}
 use Rattle.aps.specs.declared.fields.Stop.{Stop}
 use Rattle.aps.specs.declared.fields.Stop.the-variants as Stop
+use Rattle.aps.specs.declared.scaling_list.VvcScalingListData.{VvcScalingListData}
 use Rattle.aps.proofs.CodecLaws.{never-true}
 use Rattle.aps.proofs.ElementLaws.{zeros-mono}
-use Rattle.aps.proofs.SignedLaws.{add-abs}
+use Rattle.aps.proofs.SignedLaws.{mag-abs, add-abs}
 use Rattle.aps.proofs.ScalingLaws.{eqZ-only, just-is, noEntry-is}
 use Rattle.aps.proofs.StopLaws.{after-same, stops-more}
-use Rattle.aps.proofs.ScalingSteps.{entries-le}
-use Rattle.aps.proofs.WriteSteps.{writes-via, writes-▷, writes-nil, after-then, spans-then, spans-more, wrote-more, wrote-when, wrote-none, wrote-via, wrote-bad, wrote-▷}
+use Rattle.aps.proofs.ScalingSteps.{se8, entries-le}
+use Rattle.aps.proofs.WriteSteps.{writes-via, writes-▷, writes-nil, after-then, spans-then, spans-more, wrote-more, wrote-when, wrote-none, wrote-via, wrote-bad, wrote-▷, Writing, writing-start, writing-more, writing-done}
 
 -- ---- i32 values
 
@@ -48,21 +49,17 @@ same-i32 v w f g = go (eqZ v w) refl
         let same : v ≡ w = sym (toZ-ofZ f) ∙ ap (toZ w32) h ∙ toZ-ofZ g in
         never-true (sym e ∙ rw same (just-is w .itself))
 
+neg-abs : (z : ℤ) → natAbs (negℤ z) ≡ natAbs z
+neg-abs (pos zero) = refl
+neg-abs (pos (suc n)) = refl
+neg-abs (negsuc n) = refl
+
 -- `v as i64 - w as i64`
 module _ (v w : ℤ) (f : SFits w32 v) (g : SFits w32 w) where
-  neg-abs : (z : ℤ) → natAbs (negℤ z) ≡ natAbs z
-  neg-abs (pos zero) = refl
-  neg-abs (pos (suc n)) = refl
-  neg-abs (negsuc n) = refl
-
-  abs-mag : (z : ℤ) → mag z ≤ natAbs z
-  abs-mag (pos n) = omega arith
-  abs-mag (negsuc n) = omega arith
-
   pub difference-fits : SFits w64 (v -ℤ w)
   difference-fits =
       record {
-        sfits = omega (arith, abs-mag (v -ℤ w), add-abs v (negℤ w), neg-abs w, natAbs-le v {H = 2147483648} (f .sfits), natAbs-le w {H = 2147483648} (g .sfits));
+        sfits = omega (arith, mag-abs (v -ℤ w), add-abs v (negℤ w), neg-abs w, natAbs-le v {H = 2147483648} (f .sfits), natAbs-le w {H = 2147483648} (g .sfits));
       }
 
   pub difference-is : toZ w64 (ofZ w64 (toZ w64 (ofZ w64 (toZ w32 (ofZ w32 v))) -ℤ toZ w64 (ofZ w64 (toZ w32 (ofZ w32 w))))) ≡ v -ℤ w
@@ -84,9 +81,6 @@ module _ {A : Type 0} (d : Inferred A) (c : Codec A) (a : A) {b : Bool} (m : ℕ
 
 -- ---- one step
 
-abbrev pub se8 : Codec ℤ
-se8 = seIn (negsuc 127) (pos 127)
-
 not-is : {b : Bool} → b ≡ false → not b ≡ true
 not-is e = rw e
 
@@ -95,8 +89,8 @@ is-not e = rw e
 
 module _ (id i : ℕ) (prev v : ℤ) {from to : Stop} where
   -- a skipped one repeats the sum
-  pub step-skipped : {out : List ℕ} → skipped id i ≡ true → to ≡ unsent from (eqZ v prev) → Wrote (stepAt id i prev) v 17 from to out out
-  step-skipped k e = when-unsent (just prev) (step prev) v 17 (is-not k) e
+  pub step-repeated : {out : List ℕ} → skipped id i ≡ true → to ≡ unsent from (eqZ v prev) → Wrote (stepAt id i prev) v 17 from to out out
+  step-repeated k e = when-unsent (just prev) (step prev) v 17 (is-not k) e
 
   pub step-sent : {out out′ : List ℕ} → skipped id i ≡ false → Wrote se8 (v -ℤ prev) 17 from to out out′ → Wrote (stepAt id i prev) v 17 from to out out′
   unfolding step
@@ -122,6 +116,7 @@ maxIdDelta-word id h = omega (arith, maxIdDelta-few id h)
 pub delta-bits : (id : ℕ) → id < 28 → 2 * ueZeros (maxIdDelta id) + 1 ≤ 9
 unfolding ueZeros leadingZeros
 delta-bits id h = let z : ueZeros (maxIdDelta id) ≤ 4 = zeros-mono (maxIdDelta id) 19 (maxIdDelta-few id h) (lit< tt) in omega arith
+
 -- ---- the sums of a list
 
 module _ (id i : ℕ) (prev : ℤ) (out : List ℕ) (p : ℕ) where
@@ -175,21 +170,21 @@ module _ (id n : ℕ) (dc : ℤ) (vs : List ℤ) (from : Stop) (out : List ℕ) 
         stays (Stop.Refused n) = refl
 
 -- the list of an id in the flat array
-module _ (id : ℕ) (list : List ℤ) (known : id < 28) (size : length list ≡ 1792) where
-  abbrev pub row : List ℤ
-  row = take (entries id) (take 64 (drop (id * 64) list))
+abbrev pub row : ℕ → List ℤ → List ℤ
+row id list = take (entries id) (take 64 (drop (id * 64) list))
 
+module _ (id : ℕ) (list : List ℤ) (known : id < 28) (size : length list ≡ 1792) where
   whole-row : length (take 64 (drop (id * 64) list)) ≡ 64
   whole-row = length-take-le 64 (drop (id * 64) list) (omega (arith, length-drop (id * 64) list))
 
-  pub length-row : length row ≡ entries id
+  pub length-row : length (row id list) ≡ entries id
   length-row = length-take-le (entries id) (take 64 (drop (id * 64) list)) (omega (arith, entries-le id, whole-row))
 
-  pub row-cons : (i : ℕ) → i < entries id → drop i row ≡ getD list (id * 64 + i) (pos 0) ∷ drop (suc i) row
+  pub row-cons : (i : ℕ) → i < entries id → drop i (row id list) ≡ getD list (id * 64 + i) (pos 0) ∷ drop (suc i) (row id list)
   row-cons i h =
-      let e : getD row i (pos 0) ≡ getD list (id * 64 + i) (pos 0)
+      let e : getD (row id list) i (pos 0) ≡ getD list (id * 64 + i) (pos 0)
       = getD-take (entries id) (take 64 (drop (id * 64) list)) i (pos 0) h ∙ getD-take 64 (drop (id * 64) list) i (pos 0) (omega (arith, entries-le id)) ∙ getD-drop (id * 64) list i (pos 0) in
-      rw (← e) (drop-cons row i (pos 0) (omega (arith, length-row)))
+      rw (← e) (drop-cons (row id list) i (pos 0) (omega (arith, length-row)))
 
 -- ---- one id
 
@@ -237,13 +232,80 @@ module _ (chroma : Bool) (id : ℕ) (copy pred : Bool) (delta : ℕ) (dc : ℤ) 
   unfolding looked
   looked-coded e = rw (e, all-coded id)
 
-  pub id-coded : {from to : Stop} {out out′ : List ℕ} → idCoded chroma id ≡ true → Wrote (entrySyntax id) (looked true id copy pred delta dc whole) 1116 from to out out′
+  pub id-sent : {from to : Stop} {out out′ : List ℕ} → idCoded chroma id ≡ true → Wrote (entrySyntax id) (looked true id copy pred delta dc whole) 1116 from to out out′
       → Wrote (idAt chroma id) (looked chroma id copy pred delta dc whole) 1116 from to out out′
-  id-coded e w = when-sent noEntry (entrySyntax id) (looked chroma id copy pred delta dc whole) 1116 e (rw (looked-coded e) at w)
+  id-sent e w = when-sent noEntry (entrySyntax id) (looked chroma id copy pred delta dc whole) 1116 e (rw (looked-coded e) at w)
 
 -- of an uncoded id nothing is sent
-pub id-uncoded : (chroma : Bool) (id : ℕ) (copy pred : Bool) (delta : ℕ) (dc : ℤ) (whole : List ℤ) {from : Stop} {out : List ℕ} → idCoded chroma id ≡ false
+pub id-unsent : (chroma : Bool) (id : ℕ) (copy pred : Bool) (delta : ℕ) (dc : ℤ) (whole : List ℤ) {from : Stop} {out : List ℕ} → idCoded chroma id ≡ false
     → Wrote (idAt chroma id) (looked chroma id copy pred delta dc whole) 1116 from from out out
 unfolding looked
-id-uncoded chroma id copy pred delta dc whole {from} e = rw e (when-unsent noEntry (entrySyntax id) (noEntry .default) 1116 refl (still from ∙ ap (unsent from) (sym (noEntry-is .itself))))
+id-unsent chroma id copy pred delta dc whole {from} e = rw e (when-unsent noEntry (entrySyntax id) (noEntry .default) 1116 refl (still from ∙ ap (unsent from) (sym (noEntry-is .itself))))
 
+-- ---- the ids
+
+module _ {A : Type 0} (f : ℕ → A) where
+  tabulate-cons : (i n j m : ℕ) → i + j ≡ m → j < n → drop j (tabulate i n f) ≡ f m ∷ drop (suc j) (tabulate i n f)
+  tabulate-cons i zero j m e h = absurd (omega arith)
+  tabulate-cons i (suc n) zero m e h = let k : i ≡ m = omega arith in rw k
+  tabulate-cons i (suc n) (suc j) m e h = tabulate-cons (suc i) n j m (omega arith) (omega arith)
+
+  tabulate-end : (i n : ℕ) → drop n (tabulate i n f) ≡ []
+  tabulate-end i zero = refl
+  tabulate-end i (suc n) = tabulate-end (suc i) n
+
+getD-any : {A : Type 0} (l : List A) (i : ℕ) (a b : A) → i < length l → getD l i a ≡ getD l i b
+getD-any [] i a b h = absurd (omega arith)
+getD-any (x ∷ l) zero a b h = refl
+getD-any (x ∷ l) (suc i) a b h = getD-any l i a b (omega arith)
+
+-- what is looked at of an id
+abbrev pub lookedAt : Bool → VvcScalingListData → ℕ → Entry
+lookedAt chroma d id =
+    looked chroma id (getD (d .«copy_mode_flag») id true) (getD (d .«pred_mode_flag») id false) (getD (d .«pred_id_delta») id 0)
+    (getD (d .«dc_coef») (id - 14) (pos 0)) (take 64 (drop (id * 64) (d .«scaling_list»)))
+
+-- The loop over the ids: those before id are written.
+pub record Listed (chroma : Bool) (d : VvcScalingListData) (from : Stop) (out : List ℕ) (id : ℕ) (at : Stop) (now : List ℕ) : Type 0 where
+  pub left : Writing (idAt chroma) 28 (look chroma d) from out id at now
+  pub near : Spans from at (1116 * id)
+  pub count : id ≤ 28
+
+module _ (chroma : Bool) (d : VvcScalingListData) (from : Stop) (out : List ℕ) where
+  pub listed-start : Listed chroma d from out 0 from out
+  listed-start =
+      record {
+        left = writing-start (idAt chroma) 28 (look chroma d) from out;
+        near = λ m s. stops-more from m (m + 1116 * 0) s (omega arith);
+        count = omega arith;
+      }
+
+  look-cons : (id : ℕ) → id < 28 → drop id (look chroma d) ≡ lookedAt chroma d id ∷ drop (suc id) (look chroma d)
+  unfolding look
+  look-cons id h = tabulate-cons (lookedAt chroma d) 0 28 id id (omega arith) h
+
+  look-end : drop 28 (look chroma d) ≡ []
+  unfolding look
+  look-end = tabulate-end (lookedAt chroma d) 0 28
+
+  module _ (id : ℕ) (at : Stop) (now : List ℕ) (L : Listed chroma d from out id at now) where
+    pub listed-more : (at′ : Stop) (now′ : List ℕ) → id < 28 → length (d .«copy_mode_flag») ≡ 28
+        → Wrote (idAt chroma id) (looked chroma id (getD (d .«copy_mode_flag») id false) (getD (d .«pred_mode_flag») id false) (getD (d .«pred_id_delta») id 0)
+        (getD (d .«dc_coef») (id - 14) (pos 0)) (take 64 (drop (id * 64) (d .«scaling_list»)))) 1116 at at′ now now′
+        → Listed chroma d from out (id + 1) at′ now′
+    listed-more at′ now′ h n v =
+        let w : Wrote (idAt chroma id) (lookedAt chroma d id) 1116 at at′ now now′ = rw (getD-any (d .«copy_mode_flag») id true false (omega arith)) v in
+        record {
+          left = rw (add-one id) (writing-more (idAt chroma) 28 (look chroma d) from out id at at′ now now′ (lookedAt chroma d id) 1116 h (look-cons id h) (L .left) w);
+          near = spans-more from at′ (1116 * id + 1116) (1116 * (id + 1)) (omega arith) (spans-then from at at′ (1116 * id) 1116 (L .near) (w .within));
+          count = omega arith;
+        }
+
+    pub listed-done : 28 ≤ id → Wrote (scalingSyntax chroma) (look chroma d) 31248 from at out now
+    unfolding scalingSyntax
+    listed-done h =
+        let e : id ≡ 28 = omega (arith, L .count) in
+        record {
+          answer = writing-done (idAt chroma) 28 (look chroma d) from out at now look-end (rw e at (L .left));
+          within = spans-more from at (1116 * id) 31248 (omega (arith, L .count)) (L .near);
+        }

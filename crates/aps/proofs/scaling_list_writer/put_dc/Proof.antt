@@ -6,7 +6,8 @@ use lib.IntN.{pos}
 use mir.Facts.{toZ-ofZ, sfits-lit}
 use Rattle.aps.specs.ScalingSyntax.{just}
 use Rattle.aps.specs.Writing.{unsent}
-use Rattle.aps.proofs.ScalingWrites.{same-i32, se8, when-sent, when-unsent}
+use Rattle.aps.proofs.ScalingSteps.{se8}
+use Rattle.aps.proofs.ScalingWrites.{same-i32, when-sent, when-unsent}
 use Rattle.aps.proofs.scaling_list_writer.put_dc.Statement.{statement}
 use Rattle.aps.proofs.scaling_list_writer.put_dc.Tie as tie
 

@@ -1,7 +1,7 @@
 -- `put_delta`: a delta that is sent is in 0..maxIdDelta, which has at most 9 bits.
 use borrow.Author.Needs.{needs}
 use mathlib.Core.Path.{sym, _∙_}
-use Prim.Native.Nat.{_+_, _*_, _<_}
+use Prim.Native.Nat.{_+_, _*_}
 use Rattle.bitstream.specs.Fields.{ueZeros}
 use Rattle.aps.specs.Elements.{ueTo, noNumber}
 use Rattle.aps.specs.ScalingSyntax.{maxIdDelta}

@@ -5,7 +5,7 @@ use Prim.Native.Nat.{_-_, _*_}
 use denote.Ref.{now}
 use lib.IntN.{pos}
 use lib.ListN.{getD, take, drop}
-use Rattle.aps.proofs.ScalingWrites.{id-coded, id-uncoded}
+use Rattle.aps.proofs.ScalingWrites.{id-sent, id-unsent}
 use Rattle.aps.proofs.scaling_list_writer.put_id.Statement.{statement}
 use Rattle.aps.proofs.scaling_list_writer.put_id.Tie as tie
 
@@ -23,14 +23,14 @@ returns c =
     let k = c .before .before in
     let i = k .before .before .before in
     let a = i .before .before .args in
-    id-coded (a .chroma) (a .id) (a .copy) (a .pred) (a .delta) (getD (now (a .dc)) (a .id - 14) (pos 0)) (take 64 (drop (a .id * 64) (now (a .list))))
+    id-sent (a .chroma) (a .id) (a .copy) (a .pred) (a .delta) (getD (now (a .dc)) (a .id - 14) (pos 0)) (take 64 (drop (a .id * 64) (now (a .list))))
     (sym (i .id-coded .ensures) ∙ k .before .before .if1 .taken) (k .put-entry .ensures)
 
 returns-2 : tie.Need-returns-2
 returns-2 c =
     let i = c .before in
     let a = i .before .before .args in
-    id-uncoded (a .chroma) (a .id) (a .copy) (a .pred) (a .delta) (getD (now (a .dc)) (a .id - 14) (pos 0)) (take 64 (drop (a .id * 64) (now (a .list))))
+    id-unsent (a .chroma) (a .id) (a .copy) (a .pred) (a .delta) (getD (now (a .dc)) (a .id - 14) (pos 0)) (take 64 (drop (a .id * 64) (now (a .list))))
     (sym (i .id-coded .ensures) ∙ c .if1 .left)
 
 pub put-id-spec : {M : Type 1} → statement M

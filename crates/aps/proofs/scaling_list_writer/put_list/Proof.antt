@@ -31,7 +31,7 @@ returns c =
     let k = s .before .before .before .before in
     let b = k .before .before .before in
     let a = b .args in
-    wrote-▷ (dcAt (a .id)) (λ dc. sums (a .id) 0 (entries (a .id)) dc) (a .dc) (row (a .id) (now (a .list)) (b .pre .2) (b .pre .3)) 17 1088
+    wrote-▷ (dcAt (a .id)) (λ dc. sums (a .id) 0 (entries (a .id)) dc) (a .dc) (row (a .id) (now (a .list))) 17 1088
     (rw (toZ-ofZ (b .fits .dc)) at (k .put-dc .ensures)) (rw (toZ-ofZ (b .fits .dc)) at (s .put-steps .ensures))
 
 pub put-list-spec : {M : Type 1} → statement M

@@ -1,10 +1,8 @@
 -- `put_step`: a skipped step repeats the sum, and the difference of two sums is exact in i64.
 use borrow.Author.Needs.{needs}
 use mathlib.Core.Path.{_≡_, sym, ap, _∙_}
-use mathlib.Core.Bool.{true, false}
 use native.Mathlib.Omega.{arith}
-use lib.IntN.{ℤ, _-ℤ_, pos, negsuc}
-use lib.Signed.{ltZ}
+use lib.IntN.{ℤ, _-ℤ_}
 use mir.Syntax.{w32, w64}
 use mir.Val.{toZ, ofZ, SFits}
 use mir.Facts.{toZ-ofZ}
@@ -12,7 +10,7 @@ use Rattle.bitstream.proofs.Signed.{wide, wide-is}
 use Rattle.aps.specs.Writing.{unsent}
 use Rattle.aps.proofs.PutLaws.{se8-low, se8-high}
 use Rattle.aps.proofs.StopLaws.{stops-more}
-use Rattle.aps.proofs.ScalingWrites.{same-i32, difference-fits, difference-is, small-fits, step-skipped, step-sent, step-bad}
+use Rattle.aps.proofs.ScalingWrites.{same-i32, difference-fits, difference-is, small-fits, step-repeated, step-sent, step-bad}
 use Rattle.aps.proofs.scaling_list_writer.put_step.Statement.{statement}
 use Rattle.aps.proofs.scaling_list_writer.put_step.Tie as tie
 
@@ -27,7 +25,7 @@ returns c =
     let s = c .before .before in
     let b = s .before .before in
     let a = b .args in
-    step-skipped (a .id) (a .i) (a .prev) (a .v) (sym (s .step-skipped .ensures) ∙ c .before .if1 .taken)
+    step-repeated (a .id) (a .i) (a .prev) (a .v) (sym (s .step-skipped .ensures) ∙ c .before .if1 .taken)
     (c .put-none .ensures ∙ ap (unsent (a .from)) (same-i32 (a .v) (a .prev) (b .fits .v) (b .fits .prev)))
 
 cast-step : tie.Need-cast-step

@@ -1,11 +1,11 @@
 -- `put_steps`: the loop has written the sums before i.
 use borrow.Author.Needs.{needs}
-use mathlib.Core.Path.{_≡_, sym, ap, _∙_}
+use mathlib.Core.Path.{_≡_, sym, _∙_}
 use Prim.Native.Nat.{_+_, _-_, _*_, _≤_, _<_}
 use native.Mathlib.Omega.{arith}
 use denote.Ref.{now}
 use lib.IntN.{pos}
-use lib.ListN.{length, getD, take, drop}
+use lib.ListN.{length, getD}
 use mir.Syntax.{w32}
 use mir.Val.{toZ, ofZ}
 use mir.Facts.{toZ-ofZ}
@@ -18,7 +18,7 @@ use Rattle.aps.proofs.scaling_list_writer.put_steps.Tie as tie
 
 abbrev Inv-loop : tie.InvT-loop
 Inv-loop out₀ id dc list n prev₀ at₀ i₀ out prev at i =
-    (length out ≡ 4096) × Stepped id n (toZ w32 dc) (take (entries id) (take 64 (drop (id * 64) list))) at₀ out₀ i (toZ w32 prev) at out
+    (length out ≡ 4096) × Stepped id n (toZ w32 dc) (row id list) at₀ out₀ i (toZ w32 prev) at out
 
 abbrev μ-loop : tie.MeasureT-loop
 μ-loop out₀ id dc list n prev₀ at₀ i₀ out prev at i = n - i
