@@ -2,23 +2,24 @@
 use mathlib.Core.Path.{_≡_, refl, sym, ap, _∙_}
 use mathlib.Core.Bool.{Bool, true, false, cond, not, _&&_}
 use mathlib.Core.List.{List, [], _∷_}
-use Prim.Native.Nat.{ℕ, zero, suc, _+_, _-_, _*_, _≤_, _<_}
+use Prim.Native.Nat.{ℕ, zero, suc, _+_, _-_, _*_, _/_, _≤_, _<_}
 use native.Mathlib.Omega.{arith}
-use borrow.Author.Tests.{lt-ltb, le-ltb, lt-leb, eq-eqb}
+use borrow.Author.Tests.{ltb-true, ltb-false, lt-ltb, le-ltb, le-leb, lt-leb, eq-eqb}
 use lib.Dec.{leb, ltb, eqb}
 use lib.ListN.{length, getD, drop, length-drop}
-use lib.Seq.{drop-cons}
+use lib.Seq.{drop-cons, drop-length}
 use Rattle.bitstream.specs.Outcome.{Outcome, value, refused, _then_}
 use Rattle.aps.specs.Codec.{Codec, u, judged, Inferred, when, eachFrom, each}
-use Rattle.aps.specs.Elements.{noFlag, noNumber, noSigned, noPair, every, zipped, apart}
+use Rattle.aps.specs.Elements.{signed, noFlag, noNumber, noSigned, noPair, every, zipped, apart}
+use Rattle.aps.specs.AlfSyntax.{ceilLog2, lumaIndexes, noLuma, noChroma, ccCoefficients, noCc}
 use Rattle.aps.specs.Reading.{outcomeStop}
 use Rattle.aps.specs.Stops.{after, StopsBy, Spans}
 use Rattle.aps.specs.Writing.{writes, Wrote, unsent}
 use Rattle.aps.specs.declared.fields.Stop.{Stop}
 use Rattle.aps.specs.declared.fields.Stop.the-variants as Stop
 use Rattle.aps.proofs.StopLaws.{after-same, stops-more}
-use Rattle.aps.proofs.WriteSteps.{writes-none, writes-nil, writes-cons, wrote-bad, wrote-when, wrote-via, Writing, writing-more}
-use Rattle.aps.proofs.PutLaws.{and-false}
+use Rattle.aps.proofs.WriteSteps.{writes-none, writes-nil, writes-cons, wrote-bad, wrote-more, wrote-when, wrote-via, Writing, writing-start, writing-more, writing-done}
+use Rattle.aps.proofs.PutLaws.{and-false, and-true}
 
 -- ---- one index
 
@@ -26,6 +27,17 @@ use Rattle.aps.proofs.PutLaws.{and-false}
 pub index-bad : (count-1 bits x : ℕ) {from to : Stop} {out : List ℕ} → count-1 < x → to ≡ unsent from false → Wrote (judged (λ x. leb x count-1) (u bits)) x bits from to out out
 unfolding judged
 index-bad count-1 bits x {from} {to} {out} h e = wrote-bad (judged (λ x. leb x count-1) (u bits)) x bits from to out (rw (lt-leb x count-1 h) (and-false ((u bits) .ok x))) e
+
+-- one of the 25 where there is more than one filter
+abbrev pub indexSent : ℕ → ℕ → Codec ℕ
+indexSent count-1 filtIdx = when (ltb 0 count-1) noNumber (judged (λ x. leb x count-1) (u (ceilLog2 (count-1 + 1))))
+
+pub index-sent : (count-1 bits x : ℕ) {from to : Stop} {out out′ : List ℕ} (filtIdx : ℕ) → bits ≡ ceilLog2 (count-1 + 1) → bits ≤ 32 → (count-1 ≡ 0 → ⊥)
+    → Wrote (judged (λ x. leb x count-1) (u bits)) x bits from to out out′ → Wrote (indexSent count-1 filtIdx) x 32 from to out out′
+index-sent count-1 bits x {from} {to} {out} {out′} filtIdx e l h w =
+    let c : ℕ → Codec ℕ = λ n. judged (λ x. leb x count-1) (u n) in
+    let v : Wrote (c bits) x 32 from to out out′ = wrote-more (c bits) x bits 32 l w in
+    rw (lt-ltb 0 count-1 (omega arith), ← e) (wrote-when (c bits) x 32 noNumber v)
 
 -- ---- where nothing is sent
 
@@ -90,6 +102,35 @@ module _ {A : Type 0} (d : Inferred A) (c : Codec A) (n : ℕ) where
         }
         )
 
+-- an array whose entries were all written
+pub wrote-each : {A : Type 0} (k : ℕ → Codec A) (N : ℕ) (xs : List A) (from : Stop) (out : List ℕ) (i : ℕ) (at : Stop) (now : List ℕ) (m : ℕ) → i ≡ N → length xs ≡ N
+    → Writing k N xs from out i at now → Spans from at m → Wrote (each N k) xs m from at out now
+wrote-each k N xs from out i at now m h e w s =
+    let none : drop N xs ≡ [] = rw (← e) (drop-length xs) in
+    record { answer = writing-done k N xs from out at now none (rw h at w); within = s }
+
+-- arrays whose entries are described alike
+module _ {A : Type 0} {k l : ℕ → Codec A} where
+  each-same-from : (i n : ℕ) → ((j : ℕ) → j < i + n → k j ≡ l j) → eachFrom i n k ≡ eachFrom i n l
+  unfolding eachFrom
+  each-same-from i zero h = refl
+  each-same-from i (suc n) h = rw (h i (omega arith), each-same-from (suc i) n (λ j b. h j (omega arith)))
+
+  pub each-same : (n : ℕ) → ((j : ℕ) → j < n → k j ≡ l j) → each n k ≡ each n l
+  each-same n h = each-same-from 0 n (λ j b. h j (omega arith))
+
+-- nothing is sent of an array
+pub none-sent : {A : Type 0} (d : Inferred A) (c : Codec A) (N : ℕ) (xs : List A) {from to : Stop} {out : List ℕ} (m : ℕ) → length xs ≡ N → to ≡ unsent from (every (d .is) xs)
+    → Wrote (each N λ i. when false d c) xs m from to out out
+none-sent d c N xs {from} {to} {out} m e f =
+    let same : each N (firstSent d c 0) ≡ each N (λ i. when false d c) = each-same N λ j b. ap (λ (t : Bool). when t d c) (le-ltb j 0 (omega arith)) in
+    rw (← same) (sent-done d c 0 N xs from out 0 from to out m refl e (writing-start (firstSent d c 0) N xs from out) (spans-here from m) f)
+
+-- the indexes of one filter are not sent
+pub indexes-none : (count-1 : ℕ) (idx : List ℕ) {from to : Stop} {out : List ℕ} (m : ℕ) → count-1 ≡ 0 → length idx ≡ 25 → to ≡ unsent from (every (noNumber .is) idx)
+    → Wrote (lumaIndexes count-1) idx m from to out out
+indexes-none count-1 idx m e f g = rw e (none-sent noNumber (judged (λ x. leb x 0) (u (ceilLog2 1))) 25 idx m f g)
+
 -- ---- two arrays beside each other
 
 module _ {A B : Type 0} where
@@ -137,3 +178,82 @@ pairs-done d e c n a b from out i at mid to now m {x} {y} h l w s f g f′ g′ 
     wrote-apart (each (length a) (firstSent (noPair d e) c n)) a b m l
     (sent-done (noPair d e) c n (length a) (zipped a b) from out i at to now m h (zipped-length a b l) w s
     (g′ ∙ ap (λ (t : Stop). unsent t y) g ∙ unsent-both at x y ∙ ap (unsent at) (sym both)))
+
+-- an entry of the flat arrays of Cb or Cr is in a row that is sent, or below the count of entries sent
+cc-row-test : (i n : ℕ) → ltb i (7 * (n + 1)) ≡ leb (i / 7) n
+cc-row-test i n = go (ltb i (7 * (n + 1))) refl
+  where
+    go : (b : Bool) → ltb i (7 * (n + 1)) ≡ b → b ≡ leb (i / 7) n
+    go true e = sym (le-leb (i / 7) n (omega (arith, ltb-true i (7 * (n + 1)) e)))
+    go false e = sym (lt-leb (i / 7) n (omega (arith, ltb-false i (7 * (n + 1)) e)))
+
+pub cc-wrote : (n : ℕ) (a : List ℕ) (b : List Bool) (m : ℕ) {from to : Stop} {out out′ : List ℕ} → length a ≡ 28
+    → Wrote (apart (each (length a) (firstSent noSigned (signed (u 3)) (7 * (n + 1))))) (a, b) m from to out out′ → Wrote (ccCoefficients n) (a, b) m from to out out′
+cc-wrote n a b m {from} {to} {out} {out′} e w =
+    let same : each 28 (firstSent noSigned (signed (u 3)) (7 * (n + 1))) ≡ each 28 (λ i. when (leb (i / 7) n) noSigned (signed (u 3)))
+    = each-same 28 λ j h. ap (λ (t : Bool). when t noSigned (signed (u 3))) (cc-row-test j n) in
+    let v : Wrote (apart (each 28 (firstSent noSigned (signed (u 3)) (7 * (n + 1))))) (a, b) m from to out out′ = rw e at w in
+    rw (← same) v
+
+-- ---- parts of which nothing is sent
+
+-- a test that fails among others
+one-fails : (ts : List Bool) (i : ℕ) → getD ts i true ≡ false → every (λ t. t) ts ≡ false
+one-fails [] i e = e
+one-fails (t ∷ ts) zero e = rw e
+one-fails (t ∷ ts) (suc i) e = rw (one-fails ts i e) (and-false t)
+
+module _ (n : ℕ) (a : List ℕ) (b : List Bool) (s : length a ≡ 28) (t : length b ≡ 28) where
+  noCc-tests : noCc .is (n, (a, b)) ≡ (eqb n 0 && (every (noNumber .is) a && every not b))
+  noCc-tests = rw (eq-eqb (length a) 28 s, eq-eqb (length b) 28 t)
+
+  pub noCc-fails : (i : ℕ) → getD (eqb n 0 ∷ every (noNumber .is) a ∷ every not b ∷ []) i true ≡ false → false ≡ noCc .is (n, (a, b))
+  noCc-fails i e = sym (noCc-tests ∙ rw (and-true (every not b)) at (one-fails (eqb n 0 ∷ every (noNumber .is) a ∷ every not b ∷ []) i e))
+
+  pub noCc-last : n ≡ 0 → every (noNumber .is) a ≡ true → noCc .is (n, (a, b)) ≡ every not b
+  noCc-last e f = noCc-tests ∙ last
+    where
+      last : (eqb n 0 && (every (noNumber .is) a && every not b)) ≡ every not b
+      last = rw (eq-eqb n 0 e, f)
+
+and-assoc : (a b c : Bool) → ((a && b) && c) ≡ (a && (b && c))
+and-assoc true b c = refl
+and-assoc false b c = refl
+
+module _ (clip : Bool) (n : ℕ) (a : List ℕ) (b : List Bool) (k : List ℕ) (s : length a ≡ 48) (t : length b ≡ 48) (r : length k ≡ 48) where
+  noChroma-tests : noChroma .is (clip, (n, (zipped a b, k))) ≡ (not clip && (eqb n 0 && (every (noNumber .is) a && (every not b && every (noNumber .is) k))))
+  noChroma-tests =
+      let same : length b ≡ length a = t ∙ sym s in
+      rw (eq-eqb (length (zipped a b)) 48 (zipped-length a b same ∙ s), eq-eqb (length k) 48 r, zipped-every noNumber noFlag a b same)
+      (ap (λ (x : Bool). not clip && (eqb n 0 && x)) (and-assoc (every (noNumber .is) a) (every not b) (every (noNumber .is) k)))
+
+  pub noChroma-fails : (i : ℕ) → getD (not clip ∷ eqb n 0 ∷ every (noNumber .is) a ∷ every not b ∷ every (noNumber .is) k ∷ []) i true ≡ false
+      → false ≡ noChroma .is (clip, (n, (zipped a b, k)))
+  noChroma-fails i e =
+      sym (noChroma-tests ∙ rw (and-true (every (noNumber .is) k)) at (one-fails (not clip ∷ eqb n 0 ∷ every (noNumber .is) a ∷ every not b ∷ every (noNumber .is) k ∷ []) i e))
+
+  pub noChroma-last : clip ≡ false → n ≡ 0 → every (noNumber .is) a ≡ true → every not b ≡ true → noChroma .is (clip, (n, (zipped a b, k))) ≡ every (noNumber .is) k
+  noChroma-last c e f g = noChroma-tests ∙ last
+    where
+      last : (not clip && (eqb n 0 && (every (noNumber .is) a && (every not b && every (noNumber .is) k)))) ≡ every (noNumber .is) k
+      last = rw (c, eq-eqb n 0 e, f, g)
+
+module _ (clip : Bool) (n : ℕ) (idx a : List ℕ) (b : List Bool) (k : List ℕ) (q : length idx ≡ 25) (s : length a ≡ 300) (t : length b ≡ 300) (r : length k ≡ 300) where
+  noLuma-tests : noLuma .is (clip, (n, (idx, ((a, b), k))))
+      ≡ (not clip && (eqb n 0 && (every (noNumber .is) idx && (every (noNumber .is) a && (every not b && every (noNumber .is) k)))))
+  noLuma-tests =
+      rw (eq-eqb (length idx) 25 q, eq-eqb (length a) 300 s, eq-eqb (length b) 300 t, eq-eqb (length k) 300 r)
+      (ap (λ (x : Bool). not clip && (eqb n 0 && (every (noNumber .is) idx && x))) (and-assoc (every (noNumber .is) a) (every not b) (every (noNumber .is) k)))
+
+  pub noLuma-fails : (i : ℕ) → getD (not clip ∷ eqb n 0 ∷ every (noNumber .is) idx ∷ every (noNumber .is) a ∷ every not b ∷ every (noNumber .is) k ∷ []) i true ≡ false
+      → false ≡ noLuma .is (clip, (n, (idx, ((a, b), k))))
+  noLuma-fails i e =
+      sym (noLuma-tests
+      ∙ rw (and-true (every (noNumber .is) k)) at (one-fails (not clip ∷ eqb n 0 ∷ every (noNumber .is) idx ∷ every (noNumber .is) a ∷ every not b ∷ every (noNumber .is) k ∷ []) i e))
+
+  pub noLuma-last : clip ≡ false → n ≡ 0 → every (noNumber .is) idx ≡ true → every (noNumber .is) a ≡ true → every not b ≡ true
+      → noLuma .is (clip, (n, (idx, ((a, b), k)))) ≡ every (noNumber .is) k
+  noLuma-last c e d f g = noLuma-tests ∙ last
+    where
+      last : (not clip && (eqb n 0 && (every (noNumber .is) idx && (every (noNumber .is) a && (every not b && every (noNumber .is) k))))) ≡ every (noNumber .is) k
+      last = rw (c, eq-eqb n 0 e, d, f, g)
