@@ -3,23 +3,36 @@ use mathlib.Core.Path.{_≡_, refl, sym, ap, _∙_}
 use mathlib.Core.Bool.{Bool, true, false, cond, not, _&&_}
 use mathlib.Core.List.{List, [], _∷_}
 use Prim.Native.Nat.{ℕ, zero, suc, _+_, _-_, _*_, _/_, _≤_, _<_}
+use native.Mathlib.Nat.{mul-zero, mul-suc}
 use native.Mathlib.Omega.{arith}
 use borrow.Author.Tests.{ltb-true, ltb-false, lt-ltb, le-ltb, le-leb, lt-leb, eq-eqb}
+use lib.Count.{leadingZeros}
 use lib.Dec.{leb, ltb, eqb}
-use lib.ListN.{length, getD, drop, length-drop}
-use lib.Seq.{drop-cons, drop-length}
+use lib.ListN.{length, getD, take, drop, length-drop}
+use lib.Seq.{drop-cons, drop-length, drop-drop, length-take-le}
+use Rattle.bitstream.specs.Fields.{ueZeros}
 use Rattle.bitstream.specs.Outcome.{Outcome, value, refused, _then_}
-use Rattle.aps.specs.Codec.{Codec, u, judged, Inferred, when, eachFrom, each}
-use Rattle.aps.specs.Elements.{signed, noFlag, noNumber, noSigned, noPair, every, zipped, apart}
-use Rattle.aps.specs.AlfSyntax.{ceilLog2, lumaIndexes, noLuma, noChroma, ccCoefficients, noCc}
+use Rattle.aps.specs.Codec.{Codec, u, _▷_, via, judged, Inferred, when, eachFrom, each}
+use Rattle.aps.specs.Elements.{flag, ueTo, signed, noFlag, noNumber, noSigned, noPair, every, zipped, apart, rowsOf, flat}
+use Rattle.aps.specs.AlfSyntax.{ceilLog2, coefficient, lumaIndexes, lumaCoefficients, lumaClips, lumaFilters, lumaSyntax, noLuma, toLuma, fromLuma, luma}
+use Rattle.aps.specs.AlfSyntax.{alternative, alternatives, chromaSyntax, noChroma, toChroma, fromChroma, chroma}
+use Rattle.aps.specs.AlfSyntax.{ccCoefficients, ccSyntax, noCc, toCc, fromCc, cc, alfFilters, alfSyntax, toAlf, fromAlf, alf}
+use Rattle.aps.specs.declared.alf.VvcAlfLuma.{VvcAlfLuma}
+use Rattle.aps.specs.declared.alf.VvcAlfChroma.{VvcAlfChroma}
+use Rattle.aps.specs.declared.alf.VvcAlfCcFilters.{VvcAlfCcFilters}
+use Rattle.aps.specs.declared.alf.VvcAlfData.{VvcAlfData}
 use Rattle.aps.specs.Reading.{outcomeStop}
 use Rattle.aps.specs.Stops.{after, StopsBy, Spans}
 use Rattle.aps.specs.Writing.{writes, Wrote, unsent}
 use Rattle.aps.specs.declared.fields.Stop.{Stop}
 use Rattle.aps.specs.declared.fields.Stop.the-variants as Stop
+use Rattle.aps.proofs.CodecLaws.{and-both}
+use Rattle.aps.proofs.RowLaws.{length-rows}
+use Rattle.aps.proofs.Steps.{when-ok}
+use Rattle.aps.proofs.AlfSteps.{row-test, sent-test}
 use Rattle.aps.proofs.StopLaws.{after-same, stops-more}
-use Rattle.aps.proofs.WriteSteps.{writes-none, writes-nil, writes-cons, wrote-bad, wrote-more, wrote-when, wrote-via, Writing, writing-start, writing-more, writing-done}
-use Rattle.aps.proofs.PutLaws.{and-false, and-true}
+use Rattle.aps.proofs.WriteSteps.{writes-none, writes-nil, writes-cons, writes-via, wrote-bad, wrote-more, wrote-as, wrote-when, wrote-none, wrote-via, wrote-▷, Writing, writing-start, writing-more, writing-done}
+use Rattle.aps.proofs.PutLaws.{and-false, and-true, ueTo-wide}
 
 -- ---- one index
 
@@ -194,6 +207,121 @@ cc-wrote n a b m {from} {to} {out} {out′} e w =
     = each-same 28 λ j h. ap (λ (t : Bool). when t noSigned (signed (u 3))) (cc-row-test j n) in
     let v : Wrote (apart (each 28 (firstSent noSigned (signed (u 3)) (7 * (n + 1))))) (a, b) m from to out out′ = rw e at w in
     rw (← same) v
+
+-- ---- the luma filters
+
+luma-coefficients-wrote : (n : ℕ) (a : List ℕ) (b : List Bool) (m : ℕ) {from to : Stop} {out out′ : List ℕ} → length a ≡ 300
+    → Wrote (apart (each (length a) (firstSent noSigned coefficient (12 * (n + 1))))) (a, b) m from to out out′ → Wrote (lumaCoefficients n) (a, b) m from to out out′
+luma-coefficients-wrote n a b m {from} {to} {out} {out′} e w =
+    let same : each 300 (firstSent noSigned coefficient (12 * (n + 1))) ≡ each 300 (λ i. when (leb (i / 12) n) noSigned coefficient)
+    = each-same 300 λ j h. ap (λ (t : Bool). when t noSigned coefficient) (row-test j n) in
+    let v : Wrote (apart (each 300 (firstSent noSigned coefficient (12 * (n + 1))))) (a, b) m from to out out′ = rw e at w in
+    rw (← same) v
+
+luma-clips-wrote : (clip : Bool) (n : ℕ) (k : List ℕ) (m : ℕ) {from to : Stop} {out out′ : List ℕ} → length k ≡ 300
+    → Wrote (each (length k) (firstSent noNumber (u 2) (cond clip (12 * (n + 1)) 0))) k m from to out out′ → Wrote (lumaClips clip n) k m from to out out′
+luma-clips-wrote clip n k m {from} {to} {out} {out′} e w =
+    let same : each 300 (firstSent noNumber (u 2) (cond clip (12 * (n + 1)) 0)) ≡ each 300 (λ i. when (clip && leb (i / 12) n) noNumber (u 2))
+    = each-same 300 λ j h. ap (λ (t : Bool). when t noNumber (u 2)) (sent-test clip j (12 * (n + 1)) ∙ ap (λ (t : Bool). clip && t) (row-test j n)) in
+    let v : Wrote (each 300 (firstSent noNumber (u 2) (cond clip (12 * (n + 1)) 0))) k m from to out out′ = rw e at w in
+    rw (← same) v
+
+pub luma-filters-wrote : (clip : Bool) (n : ℕ) (idx a : List ℕ) (b : List Bool) (k : List ℕ) (sent : ℕ) {from mid mid′ to : Stop} {out out₁ out₂ out₃ : List ℕ}
+    → n ≤ 24 → length a ≡ 300 → length k ≡ 300 → sent ≡ cond clip (12 * (n + 1)) 0 → sent ≤ 12 * (n + 1)
+    → Wrote (lumaIndexes n) idx 800 from mid out out₁
+    → Wrote (apart (each (length a) (firstSent noSigned coefficient (12 * (n + 1))))) (a, b) (16 * (12 * (n + 1))) mid mid′ out₁ out₂
+    → Wrote (each (length k) (firstSent noNumber (u 2) sent)) k (2 * sent) mid′ to out₂ out₃
+    → Wrote (lumaFilters clip n) (idx, ((a, b), k)) 6200 from to out out₃
+luma-filters-wrote clip n idx a b k sent {from} {mid} {mid′} {to} {out} {out₁} {out₂} {out₃} h s r e l x y z =
+    let cut : Wrote (each (length k) (firstSent noNumber (u 2) (cond clip (12 * (n + 1)) 0))) k 600 mid′ to out₂ out₃
+    = rw (← e) (wrote-more (each (length k) (firstSent noNumber (u 2) sent)) k (2 * sent) 600 (omega arith) z) in
+    wrote-more (lumaFilters clip n) (idx, ((a, b), k)) (800 + (16 * (12 * (n + 1)) + 600)) 6200 (omega arith)
+    (wrote-▷ (lumaIndexes n) (λ idx. lumaCoefficients n ▷ λ coeff. lumaClips clip n) idx ((a, b), k) 800 (16 * (12 * (n + 1)) + 600) x
+    (wrote-▷ (lumaCoefficients n) (λ coeff. lumaClips clip n) (a, b) k (16 * (12 * (n + 1))) 600 (luma-coefficients-wrote n a b (16 * (12 * (n + 1))) s y) (luma-clips-wrote clip n k 600 r cut)))
+
+-- ---- the alternatives of the chroma filters
+
+module _ {A : Type 0} where
+  row-at : (r w i : ℕ) (l : List A) → i < r → getD (rowsOf r w l) i [] ≡ take w (drop (w * i) l)
+  row-at zero w i l h = absurd (omega arith)
+  row-at (suc r) w zero l h = rw (mul-zero w)
+  row-at (suc r) w (suc i) l h =
+      let o : w * suc i ≡ w + w * i = omega (arith, mul-suc w i) in
+      rw o (row-at r w i (drop w l) (omega arith) ∙ ap (take w) (drop-drop (w * i) w l))
+
+  pub length-row : (row : ℕ) (l : List A) → row < 8 → length l ≡ 48 → length (take 6 (drop (6 * row) l)) ≡ 6
+  length-row row l h e = length-take-le 6 (drop (6 * row) l) (omega (arith, length-drop (6 * row) l))
+
+module _ {A B : Type 0} where
+  zipped-take : (n : ℕ) (a : List A) (b : List B) → take n (zipped a b) ≡ zipped (take n a) (take n b)
+  zipped-take zero a b = refl
+  zipped-take (suc n) [] b = refl
+  zipped-take (suc n) (x ∷ a) [] = refl
+  zipped-take (suc n) (x ∷ a) (y ∷ b) = ap {B = List (A × B)} (λ t. (x, y) ∷ t) (zipped-take n a b)
+
+  -- two arrays that were written beside each other, as one of pairs
+  pub apart-wrote : (c : Codec (List (A × B))) (a : List A) (b : List B) (m : ℕ) {from to : Stop} {out out′ : List ℕ} → length b ≡ length a
+      → Wrote (apart c) (a, b) m from to out out′ → Wrote c (zipped a b) m from to out out′
+  unfolding apart
+  apart-wrote c a b m {out = out} e w = wrote-as (apart c) (a, b) m c (zipped a b) (λ p. writes-via _ _ _ c (a, b) out p ∙ rw (eq-eqb (length a) (length b) (sym e))) w
+
+  -- row i of two flat arrays
+  pub rows-step : (r w i : ℕ) (p : List A) (k : List B) → i < r
+      → drop i (zipped (rowsOf r w p) (rowsOf r w k)) ≡ (take w (drop (w * i) p), take w (drop (w * i) k)) ∷ drop (suc i) (zipped (rowsOf r w p) (rowsOf r w k))
+  rows-step r w i p k h =
+      let step = zipped-step i (rowsOf r w p) (rowsOf r w k) [] [] (length-rows r w k ∙ sym (length-rows r w p)) (omega (arith, length-rows r w p)) in
+      rw (row-at r w i p h, row-at r w i k h) at step
+
+six-test : (t : Bool) (j : ℕ) → j < 6 → ltb j (cond t 6 0) ≡ t
+six-test true j h = lt-ltb j 6 h
+six-test false j h = le-ltb j 0 (omega arith)
+
+alternative-wrote : (clip : Bool) (count-1 row : ℕ) (a : List ℕ) (b : List Bool) (k : List ℕ) (n sent : ℕ) {from mid to : Stop} {out out₁ out₂ : List ℕ}
+    → length a ≡ 6 → length b ≡ 6 → length k ≡ 6 → n ≡ cond (leb row count-1) 6 0 → n ≤ 6 → sent ≡ cond clip n 0 → sent ≤ n
+    → Wrote (apart (each (length a) (firstSent noSigned coefficient n))) (a, b) (16 * n) from mid out out₁
+    → Wrote (each (length k) (firstSent noNumber (u 2) sent)) k (2 * sent) mid to out₁ out₂
+    → Wrote (alternative clip count-1 row) (zipped a b, k) 108 from to out out₂
+unfolding alternative
+alternative-wrote clip count-1 row a b k n sent {from} {mid} {to} {out} {out₁} {out₂} s t r e l f g v w =
+    let test : (j : ℕ) → j < 6 → ltb j n ≡ leb row count-1 = λ j h. rw e (six-test (leb row count-1) j h) in
+    let coefficients : each 6 (firstSent noSigned coefficient n) ≡ each 6 (λ j. when (leb row count-1) noSigned coefficient)
+    = each-same 6 λ j h. ap (λ (t : Bool). when t noSigned coefficient) (test j h) in
+    let cut : each 6 (firstSent noNumber (u 2) (cond clip n 0)) ≡ each 6 (λ j. when (clip && leb row count-1) noNumber (u 2))
+    = each-same 6 λ j h. ap (λ (t : Bool). when t noNumber (u 2)) (sent-test clip j n ∙ ap (λ (t : Bool). clip && t) (test j h)) in
+    let x : Wrote (each 6 (firstSent noSigned coefficient n)) (zipped a b) (16 * n) from mid out out₁
+    = rw s at (apart-wrote (each (length a) (firstSent noSigned coefficient n)) a b (16 * n) (t ∙ sym s) v) in
+    let y : Wrote (each 6 (firstSent noNumber (u 2) sent)) k (2 * sent) mid to out₁ out₂ = rw r at w in
+    let x′ : Wrote (each 6 (λ j. when (leb row count-1) noSigned coefficient)) (zipped a b) 96 from mid out out₁
+    = rw (← coefficients) (wrote-more (each 6 (firstSent noSigned coefficient n)) (zipped a b) (16 * n) 96 (omega arith) x) in
+    let y′ : Wrote (each 6 (firstSent noNumber (u 2) (cond clip n 0))) k 12 mid to out₁ out₂
+    = rw (← f) (wrote-more (each 6 (firstSent noNumber (u 2) sent)) k (2 * sent) 12 (omega arith) y) in
+    let y″ : Wrote (each 6 (λ j. when (clip && leb row count-1) noNumber (u 2))) k 12 mid to out₁ out₂ = rw (← cut) y′ in
+    wrote-▷ (each 6 (λ j. when (leb row count-1) noSigned coefficient)) (λ coeff. each 6 λ j. when (clip && leb row count-1) noNumber (u 2)) (zipped a b) k 96 12 x′ y″
+
+-- a row of the three flat arrays
+pub alternative-row : (clip : Bool) (count-1 row : ℕ) (abs : List ℕ) (sign : List Bool) (clips : List ℕ) (w n sent : ℕ) {from mid to : Stop} {out out₁ out₂ : List ℕ}
+    → w ≡ 6 → row < 8 → length abs ≡ 48 → length sign ≡ 48 → length clips ≡ 48 → n ≡ cond (leb row count-1) 6 0 → n ≤ 6 → sent ≡ cond clip n 0 → sent ≤ n
+    → Wrote (apart (each (length (take w (drop (6 * row) abs))) (firstSent noSigned coefficient n))) (take w (drop (6 * row) abs), take w (drop (6 * row) sign)) (16 * n) from mid out out₁
+    → Wrote (each (length (take w (drop (6 * row) clips))) (firstSent noNumber (u 2) sent)) (take w (drop (6 * row) clips)) (2 * sent) mid to out₁ out₂
+    → Wrote (alternative clip count-1 row) (take 6 (drop (6 * row) (zipped abs sign)), take 6 (drop (6 * row) clips)) 108 from to out out₂
+alternative-row clip count-1 row abs sign clips w n sent {from} {mid} {to} {out} {out₁} {out₂} six h s t r e l f g x y =
+    let pairs : take 6 (drop (6 * row) (zipped abs sign)) ≡ zipped (take 6 (drop (6 * row) abs)) (take 6 (drop (6 * row) sign))
+    = ap (take 6) (zipped-drop (6 * row) abs sign (t ∙ sym s)) ∙ zipped-take 6 (drop (6 * row) abs) (drop (6 * row) sign) in
+    let x′ : Wrote (apart (each (length (take 6 (drop (6 * row) abs))) (firstSent noSigned coefficient n))) (take 6 (drop (6 * row) abs), take 6 (drop (6 * row) sign)) (16 * n) from mid out out₁
+    = rw six at x in
+    let y′ : Wrote (each (length (take 6 (drop (6 * row) clips))) (firstSent noNumber (u 2) sent)) (take 6 (drop (6 * row) clips)) (2 * sent) mid to out₁ out₂ = rw six at y in
+    rw pairs
+    (alternative-wrote clip count-1 row (take 6 (drop (6 * row) abs)) (take 6 (drop (6 * row) sign)) (take 6 (drop (6 * row) clips)) n sent
+    (length-row row abs h s) (length-row row sign h t) (length-row row clips h r) e l f g x′ y′)
+
+pub alternatives-wrote : (clip : Bool) (count-1 : ℕ) (abs : List ℕ) (sign : List Bool) (clips : List ℕ) (m : ℕ) {from to : Stop} {out out′ : List ℕ} → length abs ≡ 48 → length sign ≡ 48 → length clips ≡ 48
+    → Wrote (each 8 (alternative clip count-1)) (zipped (rowsOf 8 6 (zipped abs sign)) (rowsOf 8 6 clips)) m from to out out′
+    → Wrote (alternatives clip count-1) (zipped abs sign, clips) m from to out out′
+unfolding flat
+alternatives-wrote clip count-1 abs sign clips m s t r w =
+    let pairs : length (zipped abs sign) ≡ 48 = zipped-length abs sign (t ∙ sym s) ∙ s in
+    wrote-via _ _ _ (each 8 (alternative clip count-1)) (zipped abs sign, clips) m
+    (and-both (eqb (length (zipped abs sign)) 48) (eqb (length clips) 48) (eq-eqb (length (zipped abs sign)) 48 pairs) (eq-eqb (length clips) 48 r)) w
 
 -- ---- parts of which nothing is sent
 
