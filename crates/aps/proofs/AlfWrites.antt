@@ -249,8 +249,8 @@ module _ {A : Type 0} where
       let o : w * suc i ≡ w + w * i = omega (arith, mul-suc w i) in
       rw o (row-at r w i (drop w l) (omega arith) ∙ ap (take w) (drop-drop (w * i) w l))
 
-  pub length-row : (row : ℕ) (l : List A) → row < 8 → length l ≡ 48 → length (take 6 (drop (6 * row) l)) ≡ 6
-  length-row row l h e = length-take-le 6 (drop (6 * row) l) (omega (arith, length-drop (6 * row) l))
+  pub length-row : (w row : ℕ) (l : List A) → w ≡ 6 → row < 8 → length l ≡ 48 → length (take w (drop (6 * row) l)) ≡ 6
+  length-row w row l six h e = rw six (length-take-le 6 (drop (6 * row) l) (omega (arith, length-drop (6 * row) l)))
 
 module _ {A B : Type 0} where
   zipped-take : (n : ℕ) (a : List A) (b : List B) → take n (zipped a b) ≡ zipped (take n a) (take n b)
@@ -271,6 +271,9 @@ module _ {A B : Type 0} where
   rows-step r w i p k h =
       let step = zipped-step i (rowsOf r w p) (rowsOf r w k) [] [] (length-rows r w k ∙ sym (length-rows r w p)) (omega (arith, length-rows r w p)) in
       rw (row-at r w i p h, row-at r w i k h) at step
+
+  pub rows-length : (r w : ℕ) (p : List A) (k : List B) → length (zipped (rowsOf r w p) (rowsOf r w k)) ≡ r
+  rows-length r w p k = zipped-length (rowsOf r w p) (rowsOf r w k) (length-rows r w k ∙ sym (length-rows r w p)) ∙ length-rows r w p
 
 six-test : (t : Bool) (j : ℕ) → j < 6 → ltb j (cond t 6 0) ≡ t
 six-test true j h = lt-ltb j 6 h
@@ -312,7 +315,7 @@ alternative-row clip count-1 row abs sign clips w n sent {from} {mid} {to} {out}
     let y′ : Wrote (each (length (take 6 (drop (6 * row) clips))) (firstSent noNumber (u 2) sent)) (take 6 (drop (6 * row) clips)) (2 * sent) mid to out₁ out₂ = rw six at y in
     rw pairs
     (alternative-wrote clip count-1 row (take 6 (drop (6 * row) abs)) (take 6 (drop (6 * row) sign)) (take 6 (drop (6 * row) clips)) n sent
-    (length-row row abs h s) (length-row row sign h t) (length-row row clips h r) e l f g x′ y′)
+    (length-row 6 row abs refl h s) (length-row 6 row sign refl h t) (length-row 6 row clips refl h r) e l f g x′ y′)
 
 pub alternatives-wrote : (clip : Bool) (count-1 : ℕ) (abs : List ℕ) (sign : List Bool) (clips : List ℕ) (m : ℕ) {from to : Stop} {out out′ : List ℕ} → length abs ≡ 48 → length sign ≡ 48 → length clips ≡ 48
     → Wrote (each 8 (alternative clip count-1)) (zipped (rowsOf 8 6 (zipped abs sign)) (rowsOf 8 6 clips)) m from to out out′
