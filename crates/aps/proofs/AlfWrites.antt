@@ -11,7 +11,7 @@ use lib.Dec.{leb, ltb, eqb}
 use lib.ListN.{length, getD, take, drop, length-drop}
 use lib.Seq.{drop-cons, drop-length, drop-drop, length-take-le}
 use Rattle.bitstream.specs.Fields.{ueZeros}
-use Rattle.bitstream.specs.Outcome.{Outcome, value, refused, _then_}
+use Rattle.bitstream.specs.Outcome.{value, refused, _then_}
 use Rattle.aps.specs.Codec.{Codec, u, _▷_, via, judged, Inferred, when, eachFrom, each}
 use Rattle.aps.specs.Elements.{flag, ueTo, signed, noFlag, noNumber, noSigned, noPair, every, zipped, apart, rowsOf, flat}
 use Rattle.aps.specs.AlfSyntax.{ceilLog2, coefficient, lumaIndexes, lumaCoefficients, lumaClips, lumaFilters, lumaSyntax, noLuma, toLuma, fromLuma, luma}
@@ -22,7 +22,7 @@ use Rattle.aps.specs.declared.alf.VvcAlfChroma.{VvcAlfChroma}
 use Rattle.aps.specs.declared.alf.VvcAlfCcFilters.{VvcAlfCcFilters}
 use Rattle.aps.specs.declared.alf.VvcAlfData.{VvcAlfData}
 use Rattle.aps.specs.Reading.{outcomeStop}
-use Rattle.aps.specs.Stops.{after, StopsBy, Spans}
+use Rattle.aps.specs.Stops.{after, Spans}
 use Rattle.aps.specs.Writing.{writes, Wrote, unsent}
 use Rattle.aps.specs.declared.fields.Stop.{Stop}
 use Rattle.aps.specs.declared.fields.Stop.the-variants as Stop
@@ -55,7 +55,7 @@ index-sent count-1 bits x {from} {to} {out} {out′} filtIdx e l h w =
 -- ---- where nothing is sent
 
 -- two tests, one after the other
-pub unsent-both : (from : Stop) (a b : Bool) → unsent (unsent from a) b ≡ unsent from (a && b)
+unsent-both : (from : Stop) (a b : Bool) → unsent (unsent from a) b ≡ unsent from (a && b)
 unsent-both (Stop.End p) true b = refl
 unsent-both (Stop.End p) false b = refl
 unsent-both (Stop.Refused e) a b = refl
@@ -129,14 +129,18 @@ module _ {A : Type 0} {k l : ℕ → Codec A} where
   each-same-from i zero h = refl
   each-same-from i (suc n) h = rw (h i (omega arith), each-same-from (suc i) n (λ j b. h j (omega arith)))
 
-  pub each-same : (n : ℕ) → ((j : ℕ) → j < n → k j ≡ l j) → each n k ≡ each n l
+  each-same : (n : ℕ) → ((j : ℕ) → j < n → k j ≡ l j) → each n k ≡ each n l
   each-same n h = each-same-from 0 n (λ j b. h j (omega arith))
 
+-- where the test that an entry is sent is written otherwise
+sent-by : {A : Type 0} (d : Inferred A) (c : Codec A) (n : ℕ) (test : ℕ → Bool) (N : ℕ) → ((j : ℕ) → j < N → ltb j n ≡ test j) → each N (firstSent d c n) ≡ each N (λ i. when (test i) d c)
+sent-by d c n test N h = each-same N λ j b. ap (λ (t : Bool). when t d c) (h j b)
+
 -- nothing is sent of an array
-pub none-sent : {A : Type 0} (d : Inferred A) (c : Codec A) (N : ℕ) (xs : List A) {from to : Stop} {out : List ℕ} (m : ℕ) → length xs ≡ N → to ≡ unsent from (every (d .is) xs)
+none-sent : {A : Type 0} (d : Inferred A) (c : Codec A) (N : ℕ) (xs : List A) {from to : Stop} {out : List ℕ} (m : ℕ) → length xs ≡ N → to ≡ unsent from (every (d .is) xs)
     → Wrote (each N λ i. when false d c) xs m from to out out
 none-sent d c N xs {from} {to} {out} m e f =
-    let same : each N (firstSent d c 0) ≡ each N (λ i. when false d c) = each-same N λ j b. ap (λ (t : Bool). when t d c) (le-ltb j 0 (omega arith)) in
+    let same : each N (firstSent d c 0) ≡ each N (λ i. when false d c) = sent-by d c 0 (λ i. false) N λ j b. le-ltb j 0 (omega arith) in
     rw (← same) (sent-done d c 0 N xs from out 0 from to out m refl e (writing-start (firstSent d c 0) N xs from out) (spans-here from m) f)
 
 -- the indexes of one filter are not sent
@@ -147,12 +151,12 @@ indexes-none count-1 idx m e f g = rw e (none-sent noNumber (judged (λ x. leb x
 -- ---- two arrays beside each other
 
 module _ {A B : Type 0} where
-  pub zipped-length : (a : List A) (b : List B) → length b ≡ length a → length (zipped a b) ≡ length a
+  zipped-length : (a : List A) (b : List B) → length b ≡ length a → length (zipped a b) ≡ length a
   zipped-length [] b e = refl
   zipped-length (x ∷ a) [] e = absurd (omega arith)
   zipped-length (x ∷ a) (y ∷ b) e = ap suc (zipped-length a b (omega arith))
 
-  pub zipped-drop : (n : ℕ) (a : List A) (b : List B) → length b ≡ length a → drop n (zipped a b) ≡ zipped (drop n a) (drop n b)
+  zipped-drop : (n : ℕ) (a : List A) (b : List B) → length b ≡ length a → drop n (zipped a b) ≡ zipped (drop n a) (drop n b)
   zipped-drop zero a b e = refl
   zipped-drop (suc n) [] b e = refl
   zipped-drop (suc n) (x ∷ a) [] e = absurd (omega arith)
@@ -162,7 +166,7 @@ module _ {A B : Type 0} where
       → drop i (zipped a b) ≡ (getD a i d, getD b i e) ∷ drop (suc i) (zipped a b)
   zipped-step i a b d e s h = rw (zipped-drop i a b s, zipped-drop (suc i) a b s, drop-cons a i d h, drop-cons b i e (omega arith))
 
-  pub zipped-every : (d : Inferred A) (e : Inferred B) (a : List A) (b : List B) → length b ≡ length a
+  zipped-every : (d : Inferred A) (e : Inferred B) (a : List A) (b : List B) → length b ≡ length a
       → every ((noPair d e) .is) (zipped a b) ≡ (every (d .is) a && every (e .is) b)
   zipped-every d e [] [] s = refl
   zipped-every d e [] (y ∷ b) s = absurd (omega arith)
@@ -175,7 +179,7 @@ module _ {A B : Type 0} where
       go true false false = refl
       go false q r = refl
 
-  pub wrote-apart : (c : Codec (List (A × B))) (a : List A) (b : List B) (m : ℕ) {from to : Stop} {out out′ : List ℕ} → length b ≡ length a
+  wrote-apart : (c : Codec (List (A × B))) (a : List A) (b : List B) (m : ℕ) {from to : Stop} {out out′ : List ℕ} → length b ≡ length a
       → Wrote c (zipped a b) m from to out out′ → Wrote (apart c) (a, b) m from to out out′
   unfolding apart
   wrote-apart c a b m e w = wrote-via _ _ _ c (a, b) m (eq-eqb (length a) (length b) (sym e)) w
@@ -192,7 +196,9 @@ pairs-done d e c n a b from out i at mid to now m {x} {y} h l w s f g f′ g′ 
     (sent-done (noPair d e) c n (length a) (zipped a b) from out i at to now m h (zipped-length a b l) w s
     (g′ ∙ ap (λ (t : Stop). unsent t y) g ∙ unsent-both at x y ∙ ap (unsent at) (sym both)))
 
--- an entry of the flat arrays of Cb or Cr is in a row that is sent, or below the count of entries sent
+-- ---- the coefficients of Cb or Cr
+
+-- an entry of the flat arrays is in a row that is sent, or below the count of entries sent
 cc-row-test : (i n : ℕ) → ltb i (7 * (n + 1)) ≡ leb (i / 7) n
 cc-row-test i n = go (ltb i (7 * (n + 1))) refl
   where
@@ -204,7 +210,7 @@ pub cc-wrote : (n : ℕ) (a : List ℕ) (b : List Bool) (m : ℕ) {from to : Sto
     → Wrote (apart (each (length a) (firstSent noSigned (signed (u 3)) (7 * (n + 1))))) (a, b) m from to out out′ → Wrote (ccCoefficients n) (a, b) m from to out out′
 cc-wrote n a b m {from} {to} {out} {out′} e w =
     let same : each 28 (firstSent noSigned (signed (u 3)) (7 * (n + 1))) ≡ each 28 (λ i. when (leb (i / 7) n) noSigned (signed (u 3)))
-    = each-same 28 λ j h. ap (λ (t : Bool). when t noSigned (signed (u 3))) (cc-row-test j n) in
+    = sent-by noSigned (signed (u 3)) (7 * (n + 1)) (λ i. leb (i / 7) n) 28 λ j h. cc-row-test j n in
     let v : Wrote (apart (each 28 (firstSent noSigned (signed (u 3)) (7 * (n + 1))))) (a, b) m from to out out′ = rw e at w in
     rw (← same) v
 
@@ -214,7 +220,7 @@ luma-coefficients-wrote : (n : ℕ) (a : List ℕ) (b : List Bool) (m : ℕ) {fr
     → Wrote (apart (each (length a) (firstSent noSigned coefficient (12 * (n + 1))))) (a, b) m from to out out′ → Wrote (lumaCoefficients n) (a, b) m from to out out′
 luma-coefficients-wrote n a b m {from} {to} {out} {out′} e w =
     let same : each 300 (firstSent noSigned coefficient (12 * (n + 1))) ≡ each 300 (λ i. when (leb (i / 12) n) noSigned coefficient)
-    = each-same 300 λ j h. ap (λ (t : Bool). when t noSigned coefficient) (row-test j n) in
+    = sent-by noSigned coefficient (12 * (n + 1)) (λ i. leb (i / 12) n) 300 λ j h. row-test j n in
     let v : Wrote (apart (each 300 (firstSent noSigned coefficient (12 * (n + 1))))) (a, b) m from to out out′ = rw e at w in
     rw (← same) v
 
@@ -222,10 +228,11 @@ luma-clips-wrote : (clip : Bool) (n : ℕ) (k : List ℕ) (m : ℕ) {from to : S
     → Wrote (each (length k) (firstSent noNumber (u 2) (cond clip (12 * (n + 1)) 0))) k m from to out out′ → Wrote (lumaClips clip n) k m from to out out′
 luma-clips-wrote clip n k m {from} {to} {out} {out′} e w =
     let same : each 300 (firstSent noNumber (u 2) (cond clip (12 * (n + 1)) 0)) ≡ each 300 (λ i. when (clip && leb (i / 12) n) noNumber (u 2))
-    = each-same 300 λ j h. ap (λ (t : Bool). when t noNumber (u 2)) (sent-test clip j (12 * (n + 1)) ∙ ap (λ (t : Bool). clip && t) (row-test j n)) in
+    = sent-by noNumber (u 2) (cond clip (12 * (n + 1)) 0) (λ i. clip && leb (i / 12) n) 300 λ j h. sent-test clip j (12 * (n + 1)) ∙ ap (λ (t : Bool). clip && t) (row-test j n) in
     let v : Wrote (each 300 (firstSent noNumber (u 2) (cond clip (12 * (n + 1)) 0))) k m from to out out′ = rw e at w in
     rw (← same) v
 
+-- the three parts one after another
 pub luma-filters-wrote : (clip : Bool) (n : ℕ) (idx a : List ℕ) (b : List Bool) (k : List ℕ) (sent : ℕ) {from mid mid′ to : Stop} {out out₁ out₂ out₃ : List ℕ}
     → n ≤ 24 → length a ≡ 300 → length k ≡ 300 → sent ≡ cond clip (12 * (n + 1)) 0 → sent ≤ 12 * (n + 1)
     → Wrote (lumaIndexes n) idx 800 from mid out out₁
@@ -260,7 +267,7 @@ module _ {A B : Type 0} where
   zipped-take (suc n) (x ∷ a) (y ∷ b) = ap {B = List (A × B)} (λ t. (x, y) ∷ t) (zipped-take n a b)
 
   -- two arrays that were written beside each other, as one of pairs
-  pub apart-wrote : (c : Codec (List (A × B))) (a : List A) (b : List B) (m : ℕ) {from to : Stop} {out out′ : List ℕ} → length b ≡ length a
+  apart-wrote : (c : Codec (List (A × B))) (a : List A) (b : List B) (m : ℕ) {from to : Stop} {out out′ : List ℕ} → length b ≡ length a
       → Wrote (apart c) (a, b) m from to out out′ → Wrote c (zipped a b) m from to out out′
   unfolding apart
   apart-wrote c a b m {out = out} e w = wrote-as (apart c) (a, b) m c (zipped a b) (λ p. writes-via _ _ _ c (a, b) out p ∙ rw (eq-eqb (length a) (length b) (sym e))) w
@@ -275,6 +282,7 @@ module _ {A B : Type 0} where
   pub rows-length : (r w : ℕ) (p : List A) (k : List B) → length (zipped (rowsOf r w p) (rowsOf r w k)) ≡ r
   rows-length r w p k = zipped-length (rowsOf r w p) (rowsOf r w k) (length-rows r w k ∙ sym (length-rows r w p)) ∙ length-rows r w p
 
+-- six entries of a row that is sent, none of another
 six-test : (t : Bool) (j : ℕ) → j < 6 → ltb j (cond t 6 0) ≡ t
 six-test true j h = lt-ltb j 6 h
 six-test false j h = le-ltb j 0 (omega arith)
@@ -288,9 +296,9 @@ unfolding alternative
 alternative-wrote clip count-1 row a b k n sent {from} {mid} {to} {out} {out₁} {out₂} s t r e l f g v w =
     let test : (j : ℕ) → j < 6 → ltb j n ≡ leb row count-1 = λ j h. rw e (six-test (leb row count-1) j h) in
     let coefficients : each 6 (firstSent noSigned coefficient n) ≡ each 6 (λ j. when (leb row count-1) noSigned coefficient)
-    = each-same 6 λ j h. ap (λ (t : Bool). when t noSigned coefficient) (test j h) in
+    = sent-by noSigned coefficient n (λ j. leb row count-1) 6 test in
     let cut : each 6 (firstSent noNumber (u 2) (cond clip n 0)) ≡ each 6 (λ j. when (clip && leb row count-1) noNumber (u 2))
-    = each-same 6 λ j h. ap (λ (t : Bool). when t noNumber (u 2)) (sent-test clip j n ∙ ap (λ (t : Bool). clip && t) (test j h)) in
+    = sent-by noNumber (u 2) (cond clip n 0) (λ j. clip && leb row count-1) 6 λ j h. sent-test clip j n ∙ ap (λ (t : Bool). clip && t) (test j h) in
     let x : Wrote (each 6 (firstSent noSigned coefficient n)) (zipped a b) (16 * n) from mid out out₁
     = rw s at (apart-wrote (each (length a) (firstSent noSigned coefficient n)) a b (16 * n) (t ∙ sym s) v) in
     let y : Wrote (each 6 (firstSent noNumber (u 2) sent)) k (2 * sent) mid to out₁ out₂ = rw r at w in
@@ -317,6 +325,7 @@ alternative-row clip count-1 row abs sign clips w n sent {from} {mid} {to} {out}
     (alternative-wrote clip count-1 row (take 6 (drop (6 * row) abs)) (take 6 (drop (6 * row) sign)) (take 6 (drop (6 * row) clips)) n sent
     (length-row 6 row abs refl h s) (length-row 6 row sign refl h t) (length-row 6 row clips refl h r) e l f g x′ y′)
 
+-- all rows of them
 pub alternatives-wrote : (clip : Bool) (count-1 : ℕ) (abs : List ℕ) (sign : List Bool) (clips : List ℕ) (m : ℕ) {from to : Stop} {out out′ : List ℕ} → length abs ≡ 48 → length sign ≡ 48 → length clips ≡ 48
     → Wrote (each 8 (alternative clip count-1)) (zipped (rowsOf 8 6 (zipped abs sign)) (rowsOf 8 6 clips)) m from to out out′
     → Wrote (alternatives clip count-1) (zipped abs sign, clips) m from to out out′
@@ -391,6 +400,7 @@ module _ (clip : Bool) (n : ℕ) (idx a : List ℕ) (b : List Bool) (k : List �
 
 -- ---- the parts, sent or not
 
+-- nothing is sent of one; one that is not taken; one that is sent
 module _ {A B : Type 0} (to : A → B) (fro : B → A) (test : B → Bool) (d : Inferred A) (c : Codec A) (b : B) (m : ℕ) {from stop : Stop} (t : test b ≡ true) where
   part-none : {out : List ℕ} {x : Bool} → x ≡ d .is (fro b) → stop ≡ unsent from x → Wrote (via to fro test (when false d c)) b m from stop out out
   part-none {out} e f =
@@ -494,6 +504,9 @@ module _ (signal : Bool) (d : VvcAlfCcFilters) {from to : Stop} where
       (wrote-more ccSyntax (fromCc d) ((2 * ueZeros 3 + 1) + 112) 117 (omega (arith, count-3))
       (wrote-▷ (ueTo 3) ccCoefficients (d .«filters_signalled_minus1») (d .«mapped_coeff_abs», d .«coeff_sign») (2 * ueZeros 3 + 1) 112 a b)))
 
+-- ---- alf_data( )
+
+-- what the flags announce
 pub alf-filters-wrote : (lumaSignal chromaSignal cbSignal crSignal : Bool) (a : VvcAlfLuma) (b : VvcAlfChroma) (c d : VvcAlfCcFilters) {from mid mid′ mid″ to : Stop} {out out₁ out₂ out₃ out₄ : List ℕ}
     → Wrote (luma lumaSignal) a 6300 from mid out out₁ → Wrote (chroma chromaSignal) b 872 mid mid′ out₁ out₂ → Wrote (cc cbSignal) c 117 mid′ mid″ out₂ out₃ → Wrote (cc crSignal) d 117 mid″ to out₃ out₄
     → Wrote (alfFilters lumaSignal chromaSignal cbSignal crSignal) (a, (b, (c, d))) 7406 from to out out₄
@@ -508,7 +521,7 @@ pub alf-wrote : (chromaPresent : Bool) (d : VvcAlfData) {from s₁ s₂ s₃ s�
     → Wrote (when chromaPresent noFlag flag) (d .«alf_cc_cb_filter_signal_flag») 1 s₂ s₃ out₂ out₃
     → Wrote (when chromaPresent noFlag flag) (d .«alf_cc_cr_filter_signal_flag») 1 s₃ s₄ out₃ out₄
     → Wrote (alfFilters (d .«alf_luma_filter_signal_flag») (d .«alf_chroma_filter_signal_flag») (d .«alf_cc_cb_filter_signal_flag») (d .«alf_cc_cr_filter_signal_flag»))
-        (d .luma, (d .chroma, (d .«cc_cb», d .«cc_cr»))) 7406 s₄ to out₄ out₅
+    (d .luma, (d .chroma, (d .«cc_cb», d .«cc_cr»))) 7406 s₄ to out₄ out₅
     → Wrote (alf chromaPresent) d 7410 from to out out₅
 unfolding alf alfSyntax fromAlf
 alf-wrote chromaPresent d v w x y z =

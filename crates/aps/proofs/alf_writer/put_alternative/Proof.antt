@@ -92,7 +92,7 @@ returns c =
     let n : f .if1 .n ≤ 6 = ⊎-elim (λ w. omega (arith, w .1)) (λ w. omega (arith, w .1)) (f .if1 .came) in
     let sent : f .if1 .n ≡ cond (leb (a .row) (a .count-minus1)) 6 0
     = ⊎-elim (λ w. w .1 ∙ sym (ap (λ (t : Bool). cond t 6 0) (le-leb (a .row) (a .count-minus1) (w .0 .taken))))
-        (λ w. w .1 ∙ sym (ap (λ (t : Bool). cond t 6 0) (lt-leb (a .row) (a .count-minus1) (w .0 .left)))) (f .if1 .came) in
+    (λ w. w .1 ∙ sym (ap (λ (t : Bool). cond t 6 0) (lt-leb (a .row) (a .count-minus1) (w .0 .left)))) (f .if1 .came) in
     alternative-row (a .clip) (a .count-minus1) (a .row) (now (a .abs)) (now (a .sign)) (now (a .clips)) (6 * a .row + 6 - 6 * a .row) (f .if1 .n) (s .result)
     (omega arith) (b .pre .2) (b .pre .3) (b .pre .4) (b .pre .5) sent n (s .ensures .0) (s .ensures .1) (k .put-coefficients .ensures) (c .before .before .put-clips .ensures)
 

@@ -1,12 +1,11 @@
 -- `put_coefficients`: the loop has written the first i coefficients; the rest are 0 or the arrays are not taken.
-use mathlib.Core.Path.{_≡_, ap, _∙_}
-use mathlib.Core.Bool.{Bool, false}
-use Prim.Native.Nat.{ℕ, suc, _+_, _-_, _*_, _≤_}
+use mathlib.Core.Path.{_≡_}
+use mathlib.Core.Bool.{false}
+use Prim.Native.Nat.{suc, _+_, _-_, _*_, _≤_}
 use native.Mathlib.Omega.{arith}
 use borrow.Author.Needs.{needs}
 use denote.Ref.{now}
 use lib.ListN.{length, getD}
-use Rattle.aps.specs.Codec.{each}
 use Rattle.aps.specs.Elements.{noNumber, noFlag, noSigned, zipped}
 use Rattle.aps.specs.AlfSyntax.{coefficient}
 use Rattle.aps.specs.Stops.{Spans}
