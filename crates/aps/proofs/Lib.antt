@@ -26,6 +26,7 @@ pub mod Steps
 pub mod StopLaws
 pub mod WriteSteps
 pub mod PutLaws
+pub mod AlfWrites
 pub mod AlfSteps
 pub mod AlternativeSteps
 pub mod LmcsSteps
