@@ -24,6 +24,7 @@ pub mod Steps
 pub mod StopLaws
 pub mod WriteSteps
 pub mod PutLaws
+pub mod LmcsWrites
 pub mod AlfSteps
 pub mod AlternativeSteps
 pub mod LmcsSteps
