@@ -25,6 +25,7 @@ pub mod StopLaws
 pub mod WriteSteps
 pub mod PutLaws
 pub mod LmcsWrites
+pub mod RbspWrites
 pub mod AlfSteps
 pub mod AlternativeSteps
 pub mod LmcsSteps

@@ -1,0 +1,172 @@
+-- A set's payload, the set as an RBSP, and bytes put at the start of an output.
+use borrow.Author.Tests.{lt-ltb, le-ltb, le-leb, lt-leb, ltb-true, ltb-false}
+use borrow.Rule.Slice.PartMut.{midOf, putMid, put-same}
+use mathlib.Core.Path.{_≡_, refl, sym, ap, _∙_}
+use mathlib.Core.Bool.{Bool, true, false, cond, _&&_}
+use mathlib.Core.List.{List, [], _∷_, _++_, append-nil}
+use Prim.Native.Nat.{ℕ, zero, suc, _+_, _-_, _*_, _/_, _%_, _≤_, _<_}
+use native.Mathlib.Omega.{arith}
+use lib.Dec.{leb, ltb}
+use lib.ListN.{length, getD, take, drop, set, length-append, length-drop}
+use lib.Seq.{take-length, drop-length, drop-cons, take-append-seam, length-take-le}
+use Rattle.bitstream.specs.Outcome.{Outcome, value, refused, number, left, _then_}
+use Rattle.bitstream.specs.Escapes.{escape, putBytes, rbspToEbsp}
+use Rattle.bitstream.proofs.CodeLaws.{value-refused}
+use Rattle.bitstream.proofs.WriteLaws.{wrote}
+use Rattle.bitstream.proofs.Filling.{Filling, step, finish}
+use Rattle.aps.specs.Codec.{via, judged, provided}
+use Rattle.aps.specs.AlfSyntax.{alf}
+use Rattle.aps.specs.LmcsSyntax.{lmcs}
+use Rattle.aps.specs.ScalingSyntax.{Entry, scalingSyntax}
+use Rattle.aps.specs.ApsSyntax.{ofAlf, ofLmcs, ofScaling, alfIn, lmcsIn, entriesIn, isAlf, isLmcs, isScaling, payload}
+use Rattle.aps.specs.Writing.{Wrote, unitOf}
+use Rattle.aps.specs.declared.fields.Stop.{Stop}
+use Rattle.aps.specs.declared.alf.VvcAlfData.{VvcAlfData}
+use Rattle.aps.specs.declared.lmcs.VvcLmcsData.{VvcLmcsData}
+use Rattle.aps.proofs.WriteSteps.{wrote-more, wrote-judged, wrote-provided, wrote-via}
+
+-- ---- the payload
+
+and-false : (b : Bool) → (b && false) ≡ false
+and-false true = refl
+and-false false = refl
+
+-- an id that the kind does not have
+module _ (id : ℕ) (chroma : Bool) where
+  pub alf-id-wide : (d : VvcAlfData) → 7 < id → (payload 0 id chroma) .ok (ofAlf d) ≡ false
+  unfolding payload judged
+  alf-id-wide d h = rw (lt-leb id 7 h) (and-false ((via ofAlf alfIn isAlf (alf chroma)) .ok (ofAlf d)))
+
+  pub lmcs-id-wide : (d : VvcLmcsData) → 3 < id → (payload 1 id chroma) .ok (ofLmcs d) ≡ false
+  unfolding payload provided
+  lmcs-id-wide d h = rw (lt-leb id 3 h)
+
+  pub scaling-id-wide : (l : List Entry) → 7 < id → (payload 2 id chroma) .ok (ofScaling l) ≡ false
+  unfolding payload judged
+  scaling-id-wide l h = rw (lt-leb id 7 h) (and-false ((via ofScaling entriesIn isScaling (scalingSyntax chroma)) .ok (ofScaling l)))
+
+  -- the payload of a kind is what the kind's description writes
+  module _ {from to : Stop} {out out′ : List ℕ} where
+    pub alf-payload : (d : VvcAlfData) → id ≤ 7 → Wrote (alf chroma) d 7410 from to out out′ → Wrote (payload 0 id chroma) (ofAlf d) 31248 from to out out′
+    unfolding payload
+    alf-payload d h w =
+        wrote-judged (via ofAlf alfIn isAlf (alf chroma)) (ofAlf d) 31248 (λ p. leb id 7) (le-leb id 7 h)
+        (wrote-via ofAlf alfIn isAlf (alf chroma) (ofAlf d) 31248 refl (wrote-more (alf chroma) d 7410 31248 (omega arith) w))
+
+    pub lmcs-payload : (d : VvcLmcsData) → id ≤ 3 → Wrote (lmcs chroma) d 285 from to out out′ → Wrote (payload 1 id chroma) (ofLmcs d) 31248 from to out out′
+    unfolding payload
+    lmcs-payload d h w =
+        wrote-provided (via ofLmcs lmcsIn isLmcs (lmcs chroma)) (ofLmcs d) 31248 (leb id 3) (le-leb id 3 h)
+        (wrote-via ofLmcs lmcsIn isLmcs (lmcs chroma) (ofLmcs d) 31248 refl (wrote-more (lmcs chroma) d 285 31248 (omega arith) w))
+
+    pub scaling-payload : (l : List Entry) → id ≤ 7 → Wrote (scalingSyntax chroma) l 31248 from to out out′ → Wrote (payload 2 id chroma) (ofScaling l) 31248 from to out out′
+    unfolding payload
+    scaling-payload l h w =
+        wrote-judged (via ofScaling entriesIn isScaling (scalingSyntax chroma)) (ofScaling l) 31248 (λ p. leb id 7) (le-leb id 7 h)
+        (wrote-via ofScaling entriesIn isScaling (scalingSyntax chroma) (ofScaling l) 31248 refl w)
+
+-- ---- bytes put at the start of an output
+
+module _ (out l : List ℕ) where
+  out-short : length out < length l → putBytes out l ≡ refused 5
+  unfolding putBytes
+  out-short h = rw (lt-ltb (length out) (length l) h)
+
+  out-fits : length l ≤ length out → putBytes out l ≡ value (l ++ drop (length l) out) (length l)
+  unfolding putBytes
+  out-fits h = rw (le-ltb (length out) (length l) h)
+
+  -- what is put there if it is put, and if not
+  put-value : (after : List ℕ) (n : ℕ) → value after n ≡ putBytes out l → (after ≡ l ++ drop (length l) out) × (n ≡ length l) × (length l ≤ length out)
+  unfolding putBytes
+  put-value after n = go (ltb (length out) (length l)) refl
+    where
+      go : (b : Bool) → ltb (length out) (length l) ≡ b → value after n ≡ cond b (refused 5) (value (l ++ drop (length l) out) (length l))
+          → (after ≡ l ++ drop (length l) out) × (n ≡ length l) × (length l ≤ length out)
+      go true t e = absurd (value-refused e)
+      go false t e = (cc, cc, ltb-false _ _ t)
+
+  put-refused : (n : ℕ) → refused n ≡ putBytes out l → (n ≡ 5) × (length out < length l)
+  unfolding putBytes
+  put-refused n = go (ltb (length out) (length l)) refl
+    where
+      go : (b : Bool) → ltb (length out) (length l) ≡ b → refused n ≡ cond b (refused 5) (value (l ++ drop (length l) out) (length l)) → (n ≡ 5) × (length out < length l)
+      go true t e = (cc, ltb-true _ _ t)
+      go false t e = absurd (value-refused (sym e))
+
+  -- too little room: the output stays
+  pub not-copied : length out < length l → (refused 5 ≡ putBytes out l) × (out ≡ left out (putBytes out l))
+  not-copied h = wrote out (out-short h)
+
+-- the loop has copied the bytes below i
+pub copied-more : (out₀ out bytes : List ℕ) (i : ℕ) → i < length bytes → length bytes ≤ length out₀ → Filling out₀ out i (drop i bytes) bytes
+    → Filling out₀ (set out i (getD bytes i 0)) (i + 1) (drop (i + 1) bytes) bytes
+copied-more out₀ out bytes i h l f =
+    let e : i + 1 ≡ suc i = omega arith in
+    rw e (rw e at (step (rw (drop-cons bytes i 0 h) at f) l))
+
+pub copied : (out₀ out bytes : List ℕ) (i : ℕ) → length bytes ≤ i → i ≤ length bytes → length bytes ≤ length out₀ → Filling out₀ out i (drop i bytes) bytes
+    → (value out (length bytes) ≡ putBytes out₀ bytes) × (out ≡ left out₀ (putBytes out₀ bytes))
+copied out₀ out bytes i h k l f =
+    let e : i ≡ length bytes = omega arith in
+    let g : Filling out₀ out (length bytes) [] bytes = rw (e, drop-length bytes) at f in
+    let w : putBytes out₀ bytes ≡ value out (length bytes) = out-fits out₀ bytes l ∙ rw (finish g .1) in
+    wrote out₀ w
+
+-- ---- a unit
+
+-- the two bytes of the header before what was put after them
+head-set : (out last e : List ℕ) (t : ℕ) → 2 ≤ length out → last ≡ e ++ drop (length e) (midOf 2 (length out - 2) out)
+    → set (set (putMid 2 (length out - 2) out last) 0 0) 1 t ≡ (0 ∷ t ∷ e) ++ drop (length (0 ∷ t ∷ e)) out
+head-set [] last e t h w = absurd (omega arith)
+head-set (x ∷ []) last e t h w = absurd (omega arith)
+head-set (x ∷ y ∷ l) last e t h w =
+    let n : suc (suc (length l)) - 2 ≡ length l = omega arith in
+    let v : last ≡ e ++ drop (length e) l = rw (n, take-length l) at w in
+    rw (n, v, drop-length l, append-nil (e ++ drop (length e) l))
+
+module _ (out bytes : List ℕ) (type : ℕ) where
+  unit-length : length (unitOf type bytes) ≡ 2 + length (escape bytes)
+  unfolding unitOf
+  unit-length = omega arith
+
+  -- no room for the header
+  pub unit-short : length out < 2 → (refused 5 ≡ putBytes out (unitOf type bytes)) × (out ≡ left out (putBytes out (unitOf type bytes)))
+  unit-short h = not-copied out (unitOf type bytes) (omega (arith, unit-length))
+
+  module _ (h : 2 ≤ length out) (b : length bytes ≤ 4096) where
+    abbrev rest : List ℕ
+    rest = midOf 2 (length out - 2) out
+
+    rest-length : length rest ≡ length out - 2
+    rest-length = length-take-le (length out - 2) (drop 2 out) (omega (arith, length-drop 2 out))
+
+    escaped : rbspToEbsp bytes rest ≡ putBytes rest (escape bytes)
+    unfolding rbspToEbsp
+    escaped = rw (le-ltb 65536 (length bytes) (omega arith))
+
+    module _ (last : List ℕ) (n : ℕ) where
+      pub unit-within : value last n ≡ rbspToEbsp bytes rest → n + 2 ≤ length out
+      unit-within e =
+          let (f, g, l) = put-value rest (escape bytes) last n (e ∙ escaped) in
+          omega (arith, rest-length)
+
+      pub unit-put : value last n ≡ rbspToEbsp bytes rest
+          → (value (set (set (putMid 2 (length out - 2) out last) 0 0) 1 (type * 8 + 1)) (n + 2) ≡ putBytes out (unitOf type bytes))
+          × (set (set (putMid 2 (length out - 2) out last) 0 0) 1 (type * 8 + 1) ≡ left out (putBytes out (unitOf type bytes)))
+      unfolding unitOf
+      unit-put e =
+          let (f, g, l) = put-value rest (escape bytes) last n (e ∙ escaped) in
+          let s = head-set out last (escape bytes) (type * 8 + 1) h f in
+          let m : n + 2 ≡ suc (suc (length (escape bytes))) = omega arith in
+          wrote out (out-fits out (0 ∷ (type * 8 + 1) ∷ escape bytes) (omega (arith, rest-length)) ∙ rw (s, m))
+
+    -- no room for what follows the header
+    pub unit-refused : (last : List ℕ) (n : ℕ) → refused n ≡ rbspToEbsp bytes rest → last ≡ left rest (rbspToEbsp bytes rest)
+        → (refused n ≡ putBytes out (unitOf type bytes)) × (putMid 2 (length out - 2) out last ≡ left out (putBytes out (unitOf type bytes)))
+    unit-refused last n e k =
+        let (f, l) = put-refused rest (escape bytes) n (e ∙ escaped) in
+        let s : last ≡ rest = k ∙ ap (left rest) (sym e) in
+        let p : putMid 2 (length out - 2) out last ≡ out = rw s (put-same 2 (length out - 2) out) in
+        let w = not-copied out (unitOf type bytes) (omega (arith, unit-length, rest-length)) in
+        (ap refused f ∙ w .0, p ∙ w .1)
