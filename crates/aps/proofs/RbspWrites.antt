@@ -14,16 +14,21 @@ use Rattle.bitstream.specs.Escapes.{escape, putBytes, rbspToEbsp}
 use Rattle.bitstream.proofs.CodeLaws.{value-refused}
 use Rattle.bitstream.proofs.WriteLaws.{wrote}
 use Rattle.bitstream.proofs.Filling.{Filling, step, finish}
-use Rattle.aps.specs.Codec.{via, judged, provided}
+use Rattle.aps.specs.Codec.{u, _▷_, via, judged, provided}
+use Rattle.aps.specs.Elements.{flag}
 use Rattle.aps.specs.AlfSyntax.{alf}
 use Rattle.aps.specs.LmcsSyntax.{lmcs}
 use Rattle.aps.specs.ScalingSyntax.{Entry, scalingSyntax}
-use Rattle.aps.specs.ApsSyntax.{ofAlf, ofLmcs, ofScaling, alfIn, lmcsIn, entriesIn, isAlf, isLmcs, isScaling, payload}
-use Rattle.aps.specs.Writing.{Wrote, unitOf}
+use Rattle.aps.specs.ApsSyntax.{ofAlf, ofLmcs, ofScaling, alfIn, lmcsIn, entriesIn, isAlf, isLmcs, isScaling, payload, ApsData, apsSyntax, toAps, numberOf, payloadOf, fromAps, aps}
+use Rattle.aps.specs.Stops.{StopsBy}
+use Rattle.aps.specs.Writing.{writes, Wrote, unitOf}
+use Rattle.aps.specs.declared.aps.ApsKind.{ApsKind}
+use Rattle.aps.specs.declared.aps.VvcAps.{VvcAps}
 use Rattle.aps.specs.declared.fields.Stop.{Stop}
+use Rattle.aps.specs.declared.fields.Stop.the-variants as Stop
 use Rattle.aps.specs.declared.alf.VvcAlfData.{VvcAlfData}
 use Rattle.aps.specs.declared.lmcs.VvcLmcsData.{VvcLmcsData}
-use Rattle.aps.proofs.WriteSteps.{wrote-more, wrote-judged, wrote-provided, wrote-via}
+use Rattle.aps.proofs.WriteSteps.{writes-via, wrote-as, wrote-▷, wrote-more, wrote-judged, wrote-provided, wrote-via}
 
 -- ---- the payload
 
@@ -64,6 +69,50 @@ module _ (id : ℕ) (chroma : Bool) where
     scaling-payload l h w =
         wrote-judged (via ofScaling entriesIn isScaling (scalingSyntax chroma)) (ofScaling l) 31248 (λ p. leb id 7) (le-leb id 7 h)
         (wrote-via ofScaling entriesIn isScaling (scalingSyntax chroma) (ofScaling l) 31248 refl w)
+
+-- ---- the set
+
+-- what is sent of a set of kind k with extension flag x
+abbrev sent : VvcAps → ApsKind → Bool → ApsData
+sent a k x = (numberOf k, (a .«aps_adaptation_parameter_set_id», (a .«aps_chroma_present_flag», (payloadOf k (a .«aps_chroma_present_flag») (a .alf) (a .lmcs) (a .scaling), x))))
+
+sent-is : (a : VvcAps) (k : ApsKind) → a .kind ≡ k → a .«aps_extension_flag» ≡ false → fromAps a ≡ sent a k false
+unfolding fromAps
+sent-is a k e f = ap (λ (k : ApsKind). sent a k (a .«aps_extension_flag»)) e ∙ ap (sent a k) f
+
+-- the five parts of a set one after another
+pub set-wrote : (set : VvcAps) (k : ApsKind) {a b c d e f : Stop} {o o₁ o₂ o₃ o₄ o₅ : List ℕ} → set .kind ≡ k → set .«aps_extension_flag» ≡ false
+    → Wrote (u 3) (numberOf k) 3 a b o o₁
+    → Wrote (u 5) (set .«aps_adaptation_parameter_set_id») 5 b c o₁ o₂
+    → Wrote flag (set .«aps_chroma_present_flag») 1 c d o₂ o₃
+    → Wrote (payload (numberOf k) (set .«aps_adaptation_parameter_set_id») (set .«aps_chroma_present_flag»))
+    (payloadOf k (set .«aps_chroma_present_flag») (set .alf) (set .lmcs) (set .scaling)) 31248 d e o₃ o₄
+    → Wrote flag false 1 e f o₄ o₅
+    → Wrote aps set 31258 a f o o₅
+unfolding aps apsSyntax
+set-wrote set k {o = o} is plain v w x y z =
+    wrote-as apsSyntax (sent set k false) 31258 aps set
+    (λ p. sym (writes-via toAps fromAps (λ a. true) apsSyntax set o p ∙ ap (λ (x : ApsData). writes apsSyntax x o p) (sent-is set k is plain)))
+    (wrote-▷ (u 3) (λ kind. u 5 ▷ λ id. flag ▷ λ chroma. payload kind id chroma ▷ λ d. flag) (numberOf k) _ 3 31255 v
+    (wrote-▷ (u 5) (λ id. flag ▷ λ chroma. payload (numberOf k) id chroma ▷ λ d. flag) _ _ 5 31250 w
+    (wrote-▷ flag (λ chroma. payload (numberOf k) (set .«aps_adaptation_parameter_set_id») chroma ▷ λ d. flag) _ _ 1 31249 x
+    (wrote-▷ (payload (numberOf k) (set .«aps_adaptation_parameter_set_id») (set .«aps_chroma_present_flag»)) (λ d. flag) _ false 31248 1 y z))))
+
+-- the first four of them: what the flag after them makes of all
+pub set-reached : (set : VvcAps) (k : ApsKind) {b c d e at : Stop} {o o₁ o₂ o₃ o₄ out : List ℕ} → set .kind ≡ k → set .«aps_extension_flag» ≡ false
+    → Wrote (u 3) (numberOf k) 3 (Stop.End 0) b o o₁
+    → Wrote (u 5) (set .«aps_adaptation_parameter_set_id») 5 b c o₁ o₂
+    → Wrote flag (set .«aps_chroma_present_flag») 1 c d o₂ o₃
+    → Wrote (payload (numberOf k) (set .«aps_adaptation_parameter_set_id») (set .«aps_chroma_present_flag»))
+    (payloadOf k (set .«aps_chroma_present_flag») (set .alf) (set .lmcs) (set .scaling)) 31248 d e o₃ o₄
+    → length o₄ ≡ length o → out ≡ o₄ → at ≡ e
+    → (length out ≡ length o) × StopsBy at 31257 × ((to : Stop) (last : List ℕ) → Wrote flag false 1 at to out last → Wrote aps set 31258 (Stop.End 0) to o last)
+set-reached set k is plain v w x y l eo ea =
+    rw eo (rw ea (
+      l,
+      y .within 9 (x .within 8 (w .within 3 (v .within 0 (omega arith)))),
+      λ to last z. set-wrote set k is plain v w x y z,
+    ))
 
 -- ---- bytes put at the start of an output
 
