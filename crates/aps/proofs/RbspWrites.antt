@@ -1,18 +1,24 @@
 -- A set's payload, the set as an RBSP, and bytes put at the start of an output.
-use borrow.Author.Tests.{lt-ltb, le-ltb, le-leb, lt-leb, ltb-true, ltb-false}
+use borrow.Author.Tests.{lt-ltb, le-ltb, le-leb, lt-leb, ltb-true, ltb-false, eqb-true}
 use borrow.Rule.Slice.PartMut.{midOf, putMid, put-same}
 use mathlib.Core.Path.{_≡_, refl, sym, ap, _∙_}
-use mathlib.Core.Bool.{Bool, true, false, cond, _&&_}
+use mathlib.Core.Bool.{Bool, true, false, cond, _&&_, _||_}
 use mathlib.Core.List.{List, [], _∷_, _++_, append-nil}
 use Prim.Native.Nat.{ℕ, zero, suc, _+_, _-_, _*_, _/_, _%_, _≤_, _<_}
+use native.Mathlib.Nat.{zero-add}
 use native.Mathlib.Omega.{arith}
-use lib.Dec.{leb, ltb}
+use lib.Dec.{leb, ltb, eqb}
 use lib.ListN.{length, getD, take, drop, set, length-append, length-drop}
 use lib.Seq.{take-length, drop-length, drop-cons, take-append-seam, length-take-le}
 use Rattle.bitstream.specs.Outcome.{Outcome, value, refused, number, left, _then_}
+use Rattle.bitstream.specs.Bits.{putBits, pack}
+use Rattle.bitstream.specs.Fields.{trailingBits}
+use Rattle.bitstream.specs.Writing.{writeTrailingAt}
 use Rattle.bitstream.specs.Escapes.{escape, putBytes, rbspToEbsp}
 use Rattle.bitstream.proofs.CodeLaws.{value-refused}
-use Rattle.bitstream.proofs.WriteLaws.{wrote}
+use Rattle.bitstream.proofs.WriteLaws.{wrote, puts-append, due-some, put-fits, length-trailing}
+use Rattle.bitstream.proofs.KeepLaws.{length-puts}
+use Rattle.bitstream.proofs.PackLaws.{length-pack, puts-pack}
 use Rattle.bitstream.proofs.Filling.{Filling, step, finish}
 use Rattle.aps.specs.Codec.{u, _▷_, via, judged, provided}
 use Rattle.aps.specs.Elements.{flag}
@@ -20,14 +26,17 @@ use Rattle.aps.specs.AlfSyntax.{alf}
 use Rattle.aps.specs.LmcsSyntax.{lmcs}
 use Rattle.aps.specs.ScalingSyntax.{Entry, scalingSyntax}
 use Rattle.aps.specs.ApsSyntax.{ofAlf, ofLmcs, ofScaling, alfIn, lmcsIn, entriesIn, isAlf, isLmcs, isScaling, payload, ApsData, apsSyntax, toAps, numberOf, payloadOf, fromAps, aps}
+use Rattle.aps.specs.Rbsp.{rbspBits, rbspBytes}
+use Rattle.aps.specs.Unit.{isAps}
 use Rattle.aps.specs.Stops.{StopsBy}
-use Rattle.aps.specs.Writing.{writes, Wrote, unitOf}
+use Rattle.aps.specs.Writing.{writes, Wrote, bytesDue, unitOf, writeAps, writeApsNal}
 use Rattle.aps.specs.declared.aps.ApsKind.{ApsKind}
 use Rattle.aps.specs.declared.aps.VvcAps.{VvcAps}
 use Rattle.aps.specs.declared.fields.Stop.{Stop}
 use Rattle.aps.specs.declared.fields.Stop.the-variants as Stop
 use Rattle.aps.specs.declared.alf.VvcAlfData.{VvcAlfData}
 use Rattle.aps.specs.declared.lmcs.VvcLmcsData.{VvcLmcsData}
+use Rattle.aps.proofs.RbspLaws.{length-rbsp, bits-rbsp}
 use Rattle.aps.proofs.WriteSteps.{writes-via, wrote-as, wrote-▷, wrote-more, wrote-judged, wrote-provided, wrote-via}
 
 -- ---- the payload
@@ -113,6 +122,72 @@ set-reached set k is plain v w x y l eo ea =
       y .within 9 (x .within 8 (w .within 3 (v .within 0 (omega arith)))),
       λ to last z. set-wrote set k is plain v w x y z,
     ))
+
+-- ---- the RBSP
+
+module _ (set : VvcAps) where
+  -- a set with extension flag 1 is refused
+  pub due-extended : set .«aps_extension_flag» ≡ true → refused 3 ≡ bytesDue set
+  unfolding bytesDue
+  due-extended x = sym (ap (λ (b : Bool). cond b (refused 3) (cond (aps .ok set) (value (rbspBytes set) (length (rbspBytes set))) (refused 2))) x)
+
+  module _ (plain : set .«aps_extension_flag» ≡ false) where
+    due-plain : bytesDue set ≡ cond (aps .ok set) (value (rbspBytes set) (length (rbspBytes set))) (refused 2)
+    unfolding bytesDue
+    due-plain = ap (λ (b : Bool). cond b (refused 3) (cond (aps .ok set) (value (rbspBytes set) (length (rbspBytes set))) (refused 2))) plain
+
+    -- so is one that the description does not take
+    pub due-refused : (out : List ℕ) (n : ℕ) → refused n ≡ writes aps set out 0 → refused n ≡ bytesDue set
+    unfolding writes
+    due-refused out n e = go (aps .ok set) e ∙ sym due-plain
+      where
+        go : (b : Bool) → refused n ≡ cond b (value (putBits out 0 (aps .emit set)) (0 + length (aps .emit set))) (refused 2)
+            → refused n ≡ cond b (value (rbspBytes set) (length (rbspBytes set))) (refused 2)
+        go true e = absurd (value-refused (sym e))
+        go false e = e
+
+    module _ (out out₁ : List ℕ) (at : ℕ) (room : length out ≡ 4096) (e : value out₁ at ≡ writes aps set out 0) (l : at ≤ 31258) where
+      n : ℕ
+      n = length (aps .emit set)
+
+      -- the set stands at the start of the output
+      set-put : (aps .ok set ≡ true) × (out₁ ≡ putBits out 0 (aps .emit set)) × (at ≡ n)
+      unfolding writes n
+      set-put = go (aps .ok set) refl e
+        where
+          go : (b : Bool) → aps .ok set ≡ b → value out₁ at ≡ cond b (value (putBits out 0 (aps .emit set)) (0 + length (aps .emit set))) (refused 2)
+              → (aps .ok set ≡ true) × (out₁ ≡ putBits out 0 (aps .emit set)) × (at ≡ length (aps .emit set))
+          go true o f = let g : at ≡ 0 + length (aps .emit set) = cc in (o, cc, g ∙ zero-add _)
+          go false o f = absurd (value-refused f)
+
+      -- and there is room for its end
+      end-put : writeTrailingAt out₁ at ≡ value (putBits out₁ at (trailingBits at)) (at + length (trailingBits at))
+      unfolding writeTrailingAt
+      end-put =
+          let t = length-trailing at in
+          let m : length out₁ ≡ 4096 = ap length (set-put .1) ∙ length-puts out 0 (aps .emit set) ∙ room in
+          put-fits out₁ at (trailingBits at) (omega arith) (omega (arith, due-some at (trailingBits at) (omega arith)))
+
+      pub end-written : (n : ℕ) {T : Type 0} → refused n ≡ writeTrailingAt out₁ at → T
+      end-written n f = absurd (value-refused (sym (f ∙ end-put)))
+
+      -- the set and its end are the bytes due
+      pub due-written : ((i : ℕ) → getD out i 0 < 256) → (out₂ : List ℕ) (end : ℕ) → value out₂ end ≡ writeTrailingAt out₁ at
+          → value (take (end / 8) out₂) (end / 8) ≡ bytesDue set
+      unfolding rbspBits rbspBytes n
+      due-written bytes out₂ end f =
+          let (o, p, q) = set-put in
+          let g : value out₂ end ≡ value (putBits out₁ at (trailingBits at)) (at + length (trailingBits at)) = f ∙ end-put in
+          let x : out₂ ≡ putBits out₁ at (trailingBits at) = cc in
+          let y : end ≡ at + length (trailingBits at) = cc in
+          let b = rbspBits set in
+          let r : length b ≡ n + (8 - n % 8) = length-rbsp set in
+          let z : 0 + length (aps .emit set) ≡ at = zero-add _ ∙ sym q in
+          let w : putBits out 0 b ≡ out₂ = puts-append out 0 (aps .emit set) (trailingBits n) ∙ rw z (rw (sym p, sym q) (sym x)) in
+          let s : end / 8 ≡ length (pack b) = omega (arith, length-pack b, length-trailing at) in
+          let t : take (end / 8) out₂ ≡ pack b
+          = rw (s, sym w, puts-pack out b (bits-rbsp set o) bytes (omega arith)) (take-append-seam (pack b) _) in
+          rw (t, s) (sym (due-plain ∙ rw o))
 
 -- ---- bytes put at the start of an output
 
@@ -219,3 +294,61 @@ module _ (out bytes : List ℕ) (type : ℕ) where
         let p : putMid 2 (length out - 2) out last ≡ out = rw s (put-same 2 (length out - 2) out) in
         let w = not-copied out (unitOf type bytes) (omega (arith, unit-length, rest-length)) in
         (ap refused f ∙ w .0, p ∙ w .1)
+
+-- ---- the two calls
+
+-- a call that answers and leaves what another does
+pub answered-as : (out : List ℕ) {a o w : Outcome (List ℕ)} {last : List ℕ} → w ≡ o → (a ≡ o) × (last ≡ left out o) → (a ≡ w) × (last ≡ left out w)
+answered-as out e h = (h .0 ∙ sym e, h .1 ∙ ap (left out) (sym e))
+
+-- the unit types of a set are below 32
+pub aps-type : (type : ℕ) → isAps type ≡ true → type < 32
+aps-type type e = go (eqb type 17) (eqb type 18) refl refl e
+  where
+    go : (a b : Bool) → eqb type 17 ≡ a → eqb type 18 ≡ b → (a || b) ≡ true → type < 32
+    go true b f g e = let h = eqb-true type 17 f in omega arith
+    go false true f g e = let h = eqb-true type 18 g in omega arith
+    go false false f g e = absurd (let z : _≡_ {A = ℕ} 0 1 = cc in omega arith)
+
+module _ (set : VvcAps) (out : List ℕ) where
+  pub nal-type : (type : ℕ) → isAps type ≡ false → (refused 2 ≡ writeApsNal set type out) × (out ≡ left out (writeApsNal set type out))
+  unfolding writeApsNal
+  nal-type type t = wrote out (rw t)
+
+  -- a set that is refused
+  module _ (n : ℕ) (e : refused n ≡ bytesDue set) where
+    pub aps-refused : (refused n ≡ writeAps set out) × (out ≡ left out (writeAps set out))
+    unfolding writeAps
+    aps-refused = wrote out (ap (λ (o : Outcome (List ℕ)). o then λ bytes n. putBytes out bytes) (sym e))
+
+    pub nal-refused : (type : ℕ) → isAps type ≡ true → (refused n ≡ writeApsNal set type out) × (out ≡ left out (writeApsNal set type out))
+    unfolding writeApsNal
+    nal-refused type t = wrote out (rw t (ap (λ (o : Outcome (List ℕ)). o then λ bytes n. putBytes out (unitOf type bytes)) (sym e)))
+
+  -- one whose bytes are l
+  module _ (l : List ℕ) (n : ℕ) (e : value l n ≡ bytesDue set) where
+    pub due-length : length l ≡ n
+    unfolding bytesDue
+    due-length = go (set .«aps_extension_flag») (aps .ok set) e
+      where
+        go : (a b : Bool) → value l n ≡ cond a (refused 3) (cond b (value (rbspBytes set) (length (rbspBytes set))) (refused 2)) → length l ≡ n
+        go true b f = absurd (value-refused f)
+        go false true f =
+            let x : l ≡ rbspBytes set = cc in
+            let y : n ≡ length (rbspBytes set) = cc in
+            ap length x ∙ sym y
+        go false false f = absurd (value-refused f)
+
+    pub aps-bytes : writeAps set out ≡ putBytes out l
+    unfolding writeAps
+    aps-bytes = ap (λ (o : Outcome (List ℕ)). o then λ bytes n. putBytes out bytes) (sym e)
+
+    pub nal-bytes : (type : ℕ) → isAps type ≡ true → writeApsNal set type out ≡ putBytes out (unitOf type l)
+    unfolding writeApsNal
+    nal-bytes type t = rw t (ap (λ (o : Outcome (List ℕ)). o then λ bytes n. putBytes out (unitOf type bytes)) (sym e))
+
+-- bytes that are counted are there
+pub taken-within : (n : ℕ) (l : List ℕ) → length (take n l) ≡ n → n ≤ length l
+taken-within zero l e = omega arith
+taken-within (suc n) [] e = absurd (omega arith)
+taken-within (suc n) (x ∷ l) e = let h = taken-within n l (omega arith) in omega arith
