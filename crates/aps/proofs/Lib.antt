@@ -31,5 +31,6 @@ pub mod AlternativeSteps
 pub mod LmcsSteps
 pub mod ScalingKeep
 pub mod ScalingSteps
+pub mod ScalingWrites
 pub mod RbspSteps
 pub mod UnitSteps

@@ -10,7 +10,7 @@ use lib.Signed.{mag, leZ, ltZ}
 use mir.Syntax.{w32}
 use mir.Val.{SFits}
 
-mag-abs : (z : ℤ) → mag z ≤ natAbs z
+pub mag-abs : (z : ℤ) → mag z ≤ natAbs z
 mag-abs (pos n) = omega arith
 mag-abs (negsuc n) = omega arith
 

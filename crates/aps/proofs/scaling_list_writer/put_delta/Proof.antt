@@ -1,49 +1,47 @@
+-- `put_delta`: a delta that is sent is in 0..maxIdDelta, which has at most 9 bits.
 use borrow.Author.Needs.{needs}
+use mathlib.Core.Path.{sym, _∙_}
+use Prim.Native.Nat.{_+_, _*_}
+use Rattle.bitstream.specs.Fields.{ueZeros}
+use Rattle.aps.specs.Elements.{ueTo, noNumber}
+use Rattle.aps.specs.ScalingSyntax.{maxIdDelta}
+use Rattle.aps.proofs.WriteSteps.{wrote-more}
+use Rattle.aps.proofs.ScalingWrites.{when-sent, when-unsent, maxIdDelta-word, delta-bits}
 use Rattle.aps.proofs.scaling_list_writer.put_delta.Statement.{statement}
 use Rattle.aps.proofs.scaling_list_writer.put_delta.Tie as tie
-use Rattle.aps.proofs.scaling_list_writer.put_delta.Reads as reads
-use Rattle.aps.proofs.scaling_list_writer.put_delta.Lts as lts
-use Rattle.aps.proofs.put.put_none.Reads as put-none-reads
-use Rattle.aps.proofs.put.put_ue_to.Reads as put-ue-to-reads
-use Rattle.aps.proofs.scaling_list.delta_sent.Reads as delta-sent-reads
-use Rattle.aps.proofs.scaling_list.max_id_delta.Reads as max-id-delta-reads
 
--- src/scaling_list_writer.rt:86:8
 delta-sent-requires : tie.Need-delta-sent-requires
 delta-sent-requires c κs = search needs
 
--- src/scaling_list_writer.rt:87:44
 max-id-delta-requires : tie.Need-max-id-delta-requires
 max-id-delta-requires c κs = search needs
 
--- src/scaling_list_writer.rt:87:9
 put-ue-to-requires : tie.Need-put-ue-to-requires
-put-ue-to-requires c κs = ?
+put-ue-to-requires c κs =
+    let b = c .before .before .before .before .before in
+    (b .pre .0, b .pre .1, rw (c .max-id-delta .ensures) (maxIdDelta-word (b .args .id) (b .pre .2)))
 
--- src/scaling_list_writer.rt:87:9
 same-length : tie.Need-same-length
 same-length c = search needs
 
--- src/scaling_list_writer.rt:87:9
 returns : tie.Need-returns
-returns c = ?
+returns c =
+    let k = c .before .before in
+    let m = k .before in
+    let s = m .before .before .before in
+    let b = s .before .before in
+    let most = maxIdDelta (b .args .id) in
+    when-sent noNumber (ueTo most) (b .args .delta) 9 (sym (s .delta-sent .ensures) ∙ m .before .before .if1 .taken)
+    (wrote-more (ueTo most) (b .args .delta) (2 * ueZeros most + 1) 9 (delta-bits (b .args .id) (b .pre .2)) (rw (m .max-id-delta .ensures) at (k .put-ue-to .ensures)))
 
--- src/scaling_list_writer.rt:89:5
 put-none-requires : tie.Need-put-none-requires
 put-none-requires c κs = search needs
 
--- src/scaling_list_writer.rt:82:1
 returns-2 : tie.Need-returns-2
-returns-2 c = ?
+returns-2 c =
+    let s = c .before .before in
+    let a = s .before .before .args in
+    when-unsent noNumber (ueTo (maxIdDelta (a .id))) (a .delta) 9 (sym (s .delta-sent .ensures) ∙ c .before .if1 .left) (c .put-none .ensures)
 
 pub put-delta-spec : {M : Type 1} → statement M
-put-delta-spec =
-    tie.close
-    (tie.spec
-    delta-sent-requires
-    max-id-delta-requires
-    put-ue-to-requires
-    same-length
-    returns
-    put-none-requires
-    returns-2)
+put-delta-spec = tie.close (tie.spec delta-sent-requires max-id-delta-requires put-ue-to-requires same-length returns put-none-requires returns-2)

@@ -1,63 +1,90 @@
+-- `put_steps`: the loop has written the sums before i.
+use borrow.Author.Needs.{needs}
+use mathlib.Core.Path.{_≡_, sym, _∙_}
+use Prim.Native.Nat.{_+_, _-_, _*_, _≤_, _<_}
+use native.Mathlib.Omega.{arith}
+use denote.Ref.{now}
+use lib.IntN.{pos}
+use lib.ListN.{length, getD}
+use mir.Syntax.{w32}
+use mir.Val.{toZ, ofZ}
+use mir.Facts.{toZ-ofZ}
+use Rattle.aps.specs.ScalingSyntax.{entries}
+use Rattle.aps.proofs.StopLaws.{stops-more}
+use Rattle.aps.proofs.ScalingSteps.{entries-le}
+use Rattle.aps.proofs.ScalingWrites.{Stepped, stepped-start, stepped-more, stepped-done, row, length-row, row-cons}
 use Rattle.aps.proofs.scaling_list_writer.put_steps.Statement.{statement}
 use Rattle.aps.proofs.scaling_list_writer.put_steps.Tie as tie
-use Rattle.aps.proofs.scaling_list_writer.put_steps.Reads as reads
-use Rattle.aps.proofs.scaling_list_writer.put_steps.Lts as lts
-use Rattle.aps.proofs.scaling_list.matrix_entries.Reads as matrix-entries-reads
-use Rattle.aps.proofs.scaling_list_writer.put_step.Reads as put-step-reads
 
 abbrev Inv-loop : tie.InvT-loop
-Inv-loop out₀ id dc list n prev₀ at₀ i₀ out prev at i = ?
+Inv-loop out₀ id dc list n prev₀ at₀ i₀ out prev at i =
+    (length out ≡ 4096) × Stepped id n (toZ w32 dc) (row id list) at₀ out₀ i (toZ w32 prev) at out
 
 abbrev μ-loop : tie.MeasureT-loop
-μ-loop out₀ id dc list n prev₀ at₀ i₀ out prev at i = ?
+μ-loop out₀ id dc list n prev₀ at₀ i₀ out prev at i = n - i
 
--- src/scaling_list_writer.rt:47:9
 matrix-entries-requires : tie.Need-matrix-entries-requires Inv-loop μ-loop
-matrix-entries-requires c κs = ?
+matrix-entries-requires c κs = search needs
 
--- src/scaling_list_writer.rt:51:5
+-- the number of steps
+few : (c : tie.After-matrix-entries Inv-loop μ-loop) → c .matrix-entries .result ≤ 64
+few c = omega (arith, c .matrix-entries .ensures, entries-le (c .before .before .args .id))
+
 loop-holds : tie.Need-loop-holds Inv-loop μ-loop
-loop-holds c = ?
+loop-holds c = (c .before .before .pre .0, stepped-start _ _ _ _ _ _)
 
--- src/scaling_list_writer.rt:52:22
 mul-v : tie.Need-mul-v Inv-loop μ-loop
-mul-v c = ?
+mul-v c = omega arith
 
--- src/scaling_list_writer.rt:52:22
 add-v : tie.Need-add-v Inv-loop μ-loop
-add-v c = ?
+add-v c = omega (arith, few (c .before .before))
 
--- src/scaling_list_writer.rt:52:17
 mul-v-2 : tie.Need-mul-v-2 Inv-loop μ-loop
-mul-v-2 c = ?
+mul-v-2 c = omega (arith, few (c .before .before))
 
--- src/scaling_list_writer.rt:52:17
 shared-slice-copy-out-v : tie.Need-shared-slice-copy-out-v Inv-loop μ-loop
-shared-slice-copy-out-v c = ?
+shared-slice-copy-out-v c = omega (arith, few (c .before .before))
 
--- src/scaling_list_writer.rt:53:9
 put-step-requires : tie.Need-put-step-requires Inv-loop μ-loop
-put-step-requires c κs = ?
+put-step-requires c κs =
+    let l = c .before .before .before in
+    let b = l .before .before .before in
+    let o = l .loop in
+    (o .inv .0, stops-more (o .at) (31200 + 17 * o .i) 32600 (o .inv .1 .near 31200 (b .pre .1)) (omega (arith, o .inv .1 .count, few (l .before))), omega (arith, few (l .before)))
 
--- src/scaling_list_writer.rt:55:9
 add-i : tie.Need-add-i Inv-loop μ-loop
-add-i c = ?
+add-i c = omega (arith, few (c .before .before .before .before .before .before .before))
 
--- src/scaling_list_writer.rt:51:5
 loop-less : tie.Need-loop-less Inv-loop μ-loop
-loop-less c = ?
+loop-less c = omega arith
 
--- src/scaling_list_writer.rt:51:5
 loop-again : tie.Need-loop-again Inv-loop μ-loop
-loop-again c = ?
+loop-again c =
+    let k = c .before .before in
+    let w = k .before .before in
+    let l = w .before .before in
+    let b = l .before .before .before in
+    let a = b .args in
+    let o = l .loop in
+    let z = getD (now (a .list)) (a .id * 64 + o .i) (pos 0) in
+    let value-is : toZ w32 (ofZ w32 z) ≡ z = toZ-ofZ (record { sfits = w .v .given }) in
+    let h : o .i < entries (a .id) = rw (l .before .matrix-entries .ensures) at (w .before .loop-test .taken) in (
+      search needs,
+      stepped-more _ _ _ _ _ _ (o .i) _ _ _ (o .inv .1) _ _ _ (w .before .loop-test .taken) (rw value-is (row-cons (a .id) (now (a .list)) (b .pre .2) (b .pre .3) (o .i) h)) (k .put-step .ensures),
+    )
 
--- src/scaling_list_writer.rt:42:1
 same-length : tie.Need-same-length Inv-loop μ-loop
-same-length c = ?
+same-length c = c .before .loop .inv .0 ∙ sym (c .before .before .before .before .pre .0)
 
--- src/scaling_list_writer.rt:42:1
 returns : tie.Need-returns Inv-loop μ-loop
-returns c = ?
+returns c =
+    let l = c .before in
+    let m = l .before in
+    let b = m .before .before in
+    let a = b .args in
+    let e = m .matrix-entries .ensures in
+    rw e at
+    (stepped-done _ _ _ _ _ _ _ _ _ _ (rw (toZ-ofZ (b .fits .dc)) at (l .loop .inv .1)) (c .loop-test .left) (few m) (length-row (a .id) (now (a .list)) (b .pre .2) (b .pre .3) ∙ sym e))
 
 pub put-steps-spec : {M : Type 1} → statement M
 put-steps-spec =
