@@ -27,6 +27,8 @@ pub mod StopLaws
 pub mod WriteSteps
 pub mod PutLaws
 pub mod AlfWrites
+pub mod LmcsWrites
+pub mod RbspWrites
 pub mod AlfSteps
 pub mod AlternativeSteps
 pub mod LmcsSteps

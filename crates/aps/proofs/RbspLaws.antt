@@ -105,13 +105,13 @@ module _ (a : VvcAps) where
   bits-plain x = ap (λ (b : Bool). cond b (aps .emit a) (rbspBits a)) x
 
   -- the trailing bits fill the last byte
-  length-rbsp : length (rbspBits a) ≡ length (aps .emit a) + (8 - length (aps .emit a) % 8)
+  pub length-rbsp : length (rbspBits a) ≡ length (aps .emit a) + (8 - length (aps .emit a) % 8)
   unfolding rbspBits
   length-rbsp =
       let n = length (aps .emit a) in
       length-append (aps .emit a) (trailingBits n) ∙ ap (λ (k : ℕ). n + k) (length-trailing n)
 
-  bits-rbsp : aps .ok a ≡ true → AreBits (rbspBits a)
+  pub bits-rbsp : aps .ok a ≡ true → AreBits (rbspBits a)
   unfolding rbspBits
   bits-rbsp o = bits-append (aps .emit a) (trailingBits (length (aps .emit a))) (aps-bits a o) (bits-trailing (length (aps .emit a)))
 

@@ -1,49 +1,54 @@
+-- `copy_out`: the bytes below i are copied; the rest of the output is as it was.
+use Prim.Native.Nat.{_+_, _-_, _≤_}
+use native.Mathlib.Omega.{arith}
+use denote.Ref.{now}
+use lib.ListN.{length, drop}
+use Rattle.bitstream.proofs.Filling.{Filling, start}
+use Rattle.aps.proofs.RbspWrites.{not-copied, copied-more, copied}
 use Rattle.aps.proofs.aps_writer.copy_out.Statement.{statement}
 use Rattle.aps.proofs.aps_writer.copy_out.Tie as tie
-use Rattle.aps.proofs.aps_writer.copy_out.Reads as reads
-use Rattle.aps.proofs.aps_writer.copy_out.Lts as lts
 
 abbrev Inv-loop : tie.InvT-loop
-Inv-loop bytes out₀ i₀ out i = ?
+Inv-loop bytes out₀ i₀ out i = (i ≤ length bytes) × Filling out₀ out i (drop i bytes) bytes
 
 abbrev μ-loop : tie.MeasureT-loop
-μ-loop bytes out₀ i₀ out i = ?
+μ-loop bytes out₀ i₀ out i = length bytes - i
 
--- src/aps_writer.rt:129:9
 returns : tie.Need-returns Inv-loop μ-loop
-returns c = ?
+returns c = not-copied (now (c .before .args .out)) (now (c .before .args .bytes)) (omega arith)
 
--- src/aps_writer.rt:132:5
 loop-holds : tie.Need-loop-holds Inv-loop μ-loop
-loop-holds c = ?
+loop-holds c = (omega arith, start (now (c .before .args .out)) (now (c .before .args .bytes)))
 
--- src/aps_writer.rt:133:18
 shared-slice-read-out : tie.Need-shared-slice-read-out Inv-loop μ-loop
-shared-slice-read-out c = ?
+shared-slice-read-out c = omega arith
 
--- src/aps_writer.rt:133:9
 slice-write-out : tie.Need-slice-write-out Inv-loop μ-loop
-slice-write-out c = ?
+slice-write-out c =
+    let l = c .before .before in
+    let b = l .before .before in
+    omega (arith, l .loop .inv .1 .same)
 
--- src/aps_writer.rt:134:9
 add-i : tie.Need-add-i Inv-loop μ-loop
-add-i c = ?
+add-i c = omega arith
 
--- src/aps_writer.rt:132:5
 loop-less : tie.Need-loop-less Inv-loop μ-loop
-loop-less c = ?
+loop-less c = omega arith
 
--- src/aps_writer.rt:132:5
 loop-again : tie.Need-loop-again Inv-loop μ-loop
-loop-again c = ?
+loop-again c =
+    let l = c .before .before in
+    let b = l .before .before in
+    (omega arith, copied-more (now (b .args .out)) (l .loop .out) (now (b .args .bytes)) (l .loop .i) (omega arith) (omega arith) (l .loop .inv .1))
 
--- src/aps_writer.rt:124:1
 same-length : tie.Need-same-length Inv-loop μ-loop
-same-length c = ?
+same-length c = c .before .loop .inv .1 .same
 
--- src/aps_writer.rt:124:1
 returns-2 : tie.Need-returns-2 Inv-loop μ-loop
-returns-2 c = ?
+returns-2 c =
+    let l = c .before in
+    let b = l .before .before in
+    copied (now (b .args .out)) (l .loop .out) (now (b .args .bytes)) (l .loop .i) (omega arith) (omega arith) (omega arith) (l .loop .inv .1)
 
 pub copy-out-spec : {M : Type 1} → statement M
 copy-out-spec =

@@ -1,30 +1,32 @@
+-- `put_alf_payload`: an id above 7 is not taken.
 use borrow.Author.Needs.{needs}
+use denote.Ref.{now}
+use Rattle.aps.specs.ApsSyntax.{ofAlf, payload}
+use Rattle.aps.proofs.WriteSteps.{wrote-bad}
+use Rattle.aps.proofs.RbspWrites.{alf-id-wide, alf-payload}
 use Rattle.aps.proofs.aps_writer.put_alf_payload.Statement.{statement}
 use Rattle.aps.proofs.aps_writer.put_alf_payload.Tie as tie
-use Rattle.aps.proofs.aps_writer.put_alf_payload.Reads as reads
-use Rattle.aps.proofs.aps_writer.put_alf_payload.Lts as lts
-use Rattle.aps.proofs.alf_writer.put_alf.Reads as put-alf-reads
-use Rattle.aps.proofs.put.put_none.Reads as put-none-reads
 
--- src/aps_writer.rt:40:9
 put-none-requires : tie.Need-put-none-requires
 put-none-requires c κs = search needs
 
--- src/aps_writer.rt:40:9
 returns : tie.Need-returns
-returns c = ?
+returns c =
+    let a = c .before .before .before .args in
+    wrote-bad (payload 0 (a .id) (a .chroma)) (ofAlf (a .d)) 31248 (a .from) (c .put-none .result) (now (a .out)) (alf-id-wide (a .id) (a .chroma) (a .d) (c .before .if1 .taken)) (c .put-none .ensures)
 
--- src/aps_writer.rt:42:5
 put-alf-requires : tie.Need-put-alf-requires
 put-alf-requires c κs = search needs
 
--- src/aps_writer.rt:35:1
 same-length : tie.Need-same-length
 same-length c = search needs
 
--- src/aps_writer.rt:35:1
 returns-2 : tie.Need-returns-2
-returns-2 c = ?
+returns-2 c =
+    let k = c .before .before in
+    let i = k .before .before in
+    let b = i .before .before in
+    alf-payload (b .args .id) (b .args .chroma) (b .args .d) (i .if1 .left) (k .put-alf .ensures)
 
 pub put-alf-payload-spec : {M : Type 1} → statement M
 put-alf-payload-spec =

@@ -1,30 +1,33 @@
+-- `put_scaling_payload`: an id above 7 is not taken.
 use borrow.Author.Needs.{needs}
+use denote.Ref.{now}
+use Rattle.aps.specs.ApsSyntax.{ofScaling, payload}
+use Rattle.aps.specs.ScalingSyntax.{look}
+use Rattle.aps.proofs.WriteSteps.{wrote-bad}
+use Rattle.aps.proofs.RbspWrites.{scaling-id-wide, scaling-payload}
 use Rattle.aps.proofs.aps_writer.put_scaling_payload.Statement.{statement}
 use Rattle.aps.proofs.aps_writer.put_scaling_payload.Tie as tie
-use Rattle.aps.proofs.aps_writer.put_scaling_payload.Reads as reads
-use Rattle.aps.proofs.aps_writer.put_scaling_payload.Lts as lts
-use Rattle.aps.proofs.put.put_none.Reads as put-none-reads
-use Rattle.aps.proofs.scaling_list_writer.put_scaling.Reads as put-scaling-reads
 
--- src/aps_writer.rt:66:9
 put-none-requires : tie.Need-put-none-requires
 put-none-requires c κs = search needs
 
--- src/aps_writer.rt:66:9
 returns : tie.Need-returns
-returns c = ?
+returns c =
+    let a = c .before .before .before .args in
+    wrote-bad (payload 2 (a .id) (a .chroma)) (ofScaling (look (a .chroma) (a .d))) 31248 (a .from) (c .put-none .result) (now (a .out)) (scaling-id-wide (a .id) (a .chroma) (look (a .chroma) (a .d)) (c .before .if1 .taken)) (c .put-none .ensures)
 
--- src/aps_writer.rt:68:5
 put-scaling-requires : tie.Need-put-scaling-requires
 put-scaling-requires c κs = search needs
 
--- src/aps_writer.rt:55:1
 same-length : tie.Need-same-length
 same-length c = search needs
 
--- src/aps_writer.rt:55:1
 returns-2 : tie.Need-returns-2
-returns-2 c = ?
+returns-2 c =
+    let k = c .before .before in
+    let i = k .before .before in
+    let b = i .before .before in
+    scaling-payload (b .args .id) (b .args .chroma) (look (b .args .chroma) (b .args .d)) (i .if1 .left) (k .put-scaling .ensures)
 
 pub put-scaling-payload-spec : {M : Type 1} → statement M
 put-scaling-payload-spec =

@@ -1,73 +1,90 @@
+-- `unit_out`: the escaped bytes after the header's two, if there is room for both.
 use borrow.Author.Needs.{needs}
+use borrow.Rule.Slice.PartMut.{midOf, putMid}
+use mathlib.Core.Path.{_≡_}
+use Prim.Native.Nat.{_-_}
+use native.Mathlib.Omega.{arith}
+use denote.Ref.{now}
+use lib.ListN.{length}
+use Rattle.bitstream.specs.Outcome.{value, refused, number}
+use Rattle.bitstream.specs.Escapes.{rbspToEbsp}
+use Rattle.aps.proofs.RbspWrites.{unit-short, unit-within, unit-put, unit-refused}
+use lib.Seq.{lt-length-set}
 use Rattle.aps.proofs.aps_writer.unit_out.Statement.{statement}
 use Rattle.aps.proofs.aps_writer.unit_out.Tie as tie
-use Rattle.aps.proofs.aps_writer.unit_out.Reads as reads
-use Rattle.aps.proofs.aps_writer.unit_out.Lts as lts
-use Rattle.bitstream.proofs.nal.rbsp_to_ebsp.Reads as rbsp-to-ebsp-reads
 
--- src/aps_writer.rt:146:9
 returns : tie.Need-returns
-returns c = ?
+returns c =
+    let a = c .before .before .before .args in
+    unit-short (now (a .out)) (now (a .bytes)) (a .unit-type) (omega arith)
 
--- src/aps_writer.rt:148:31
 sub-rbsp-to-ebsp : tie.Need-sub-rbsp-to-ebsp
 sub-rbsp-to-ebsp c = search needs
 
--- src/aps_writer.rt:148:31
 part-rbsp-to-ebsp-start : tie.Need-part-rbsp-to-ebsp-start
 part-rbsp-to-ebsp-start c = search needs
 
--- src/aps_writer.rt:148:31
 part-rbsp-to-ebsp-end : tie.Need-part-rbsp-to-ebsp-end
 part-rbsp-to-ebsp-end c = search needs
 
--- src/aps_writer.rt:148:11
 rbsp-to-ebsp-requires : tie.Need-rbsp-to-ebsp-requires
 rbsp-to-ebsp-requires c κs = search needs
 
--- src/aps_writer.rt:149:21
 enum-known-n : tie.Need-enum-known-n
 enum-known-n c = search needs
 
--- src/aps_writer.rt:150:13
 slice-write-out : tie.Need-slice-write-out
 slice-write-out c = search needs
 
--- src/aps_writer.rt:151:22
 mul-out : tie.Need-mul-out
 mul-out c = search needs
 
--- src/aps_writer.rt:151:22
 add-out : tie.Need-add-out
 add-out c = search needs
 
--- src/aps_writer.rt:151:13
 slice-write-out-2 : tie.Need-slice-write-out-2
-slice-write-out-2 c = ?
+slice-write-out-2 c =
+    let k = c .before .before .before .before .before in
+    let a = k .before .before .before .before .before .args in
+    let l = putMid 2 (length (now (a .out)) - 2) (now (a .out)) (k .rbsp-to-ebsp .last .1 .0) in
+    let e : length l ≡ length (now (a .out)) = search needs in
+    lt-length-set l 0 0 (omega (arith, e))
 
--- src/aps_writer.rt:152:25
 add-t18 : tie.Need-add-t18
-add-t18 c = ?
+add-t18 c =
+    let k = c .before .before .before .before .before in
+    let i = k .before .before in
+    let b = i .before .before .before in
+    let e : value (k .rbsp-to-ebsp .last .1 .0) (c .before .n .given .0 .0) ≡ rbspToEbsp (now (b .args .bytes)) (midOf 2 (length (now (b .args .out)) - 2) (now (b .args .out)))
+    = rw (c .before .n .given .1) at (k .rbsp-to-ebsp .ensures .0) in
+    omega (arith, unit-within (now (b .args .out)) (now (b .args .bytes)) (b .args .unit-type) (omega arith) (b .pre .0) _ _ e, b .good)
 
--- src/aps_writer.rt:154:23
 enum-known-why : tie.Need-enum-known-why
 enum-known-why c = search needs
 
--- src/aps_writer.rt:140:1
 same-length : tie.Need-same-length
 same-length c = search needs
 
--- src/aps_writer.rt:140:1
 returns-2 : tie.Need-returns-2
-returns-2 c = ?
+returns-2 c =
+    let k = c .before .before .before .before .before in
+    let i = k .before .before in
+    let b = i .before .before .before in
+    let e : value (k .rbsp-to-ebsp .last .1 .0) (c .before .n .given .0 .0) ≡ rbspToEbsp (now (b .args .bytes)) (midOf 2 (length (now (b .args .out)) - 2) (now (b .args .out)))
+    = rw (c .before .n .given .1) at (k .rbsp-to-ebsp .ensures .0) in
+    unit-put (now (b .args .out)) (now (b .args .bytes)) (b .args .unit-type) (omega arith) (b .pre .0) _ _ e
 
--- src/aps_writer.rt:140:1
 same-length-2 : tie.Need-same-length-2
 same-length-2 c = search needs
 
--- src/aps_writer.rt:140:1
 returns-3 : tie.Need-returns-3
-returns-3 c = ?
+returns-3 c =
+    let k = c .before .before .before .before .before in
+    let i = k .before .before in
+    let b = i .before .before .before in
+    let e : refused (number (c .before .why .given .0 .0)) ≡ rbspToEbsp (now (b .args .bytes)) (midOf 2 (length (now (b .args .out)) - 2) (now (b .args .out)))
+    = rw (c .before .why .given .1) at (k .rbsp-to-ebsp .ensures .0) in
+    unit-refused (now (b .args .out)) (now (b .args .bytes)) (b .args .unit-type) (omega arith) (b .pre .0) _ _ e (k .rbsp-to-ebsp .ensures .1)
 
 pub unit-out-spec : {M : Type 1} → statement M
 unit-out-spec =

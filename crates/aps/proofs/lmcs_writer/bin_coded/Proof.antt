@@ -1,20 +1,17 @@
+-- `bin_coded`: a bin below min is not coded; one from min on is if it is not above 15 - max.
 use borrow.Author.Needs.{needs}
+use borrow.Author.Tests.{le-leb, lt-leb}
 use Rattle.aps.proofs.lmcs_writer.bin_coded.Statement.{statement}
 use Rattle.aps.proofs.lmcs_writer.bin_coded.Tie as tie
-use Rattle.aps.proofs.lmcs_writer.bin_coded.Reads as reads
-use Rattle.aps.proofs.lmcs_writer.bin_coded.Lts as lts
 
--- src/lmcs_writer.rt:46:9
 returns : tie.Need-returns
-returns c = ?
+returns c = rw (lt-leb _ _ (c .if1 .taken))
 
--- src/lmcs_writer.rt:48:10
 sub-result : tie.Need-sub-result
 sub-result c = search needs
 
--- src/lmcs_writer.rt:41:1
 returns-2 : tie.Need-returns-2
-returns-2 c = ?
+returns-2 c = rw (le-leb _ _ (c .if1 .left))
 
 pub bin-coded-spec : {M : Type 1} → statement M
 bin-coded-spec = tie.close (tie.spec returns sub-result returns-2)
