@@ -1,25 +1,33 @@
 -- Numbers tested against a range and taken as fields, one and in a loop.
-use Prim.Native.Nat.{ℕ, zero, suc, _+_, _-_, _<_, _≤_, _^_}
+use Prim.Native.Nat.{ℕ, suc, _+_, _-_, _<_, _≤_, _^_}
 use mathlib.Core.Path.{_≡_, refl, sym, ap, _∙_}
 use mathlib.Core.Bool.{Bool, true, false, cond, not, _&&_}
 use mathlib.Core.Logic.{_⊎_, inl, inr}
 use mathlib.Core.List.{List, [], _∷_, _++_, map, append-nil}
 use native.Mathlib.Omega.{arith}
 use native.Mathlib.Numerals.{add-one}
-use borrow.Author.Tests.{leb-true, eq-eqb, ne-eqb}
+use borrow.Author.Tests.{leb-true, ne-eqb, not-true, not-false}
 use lib.Dec.{T, eqb}
 use lib.IntN.{ℤ, pos, negsuc, natAbs}
 use lib.Signed.{mag, leZ, ltZ, nonNeg}
-use lib.ListN.{length, take, drop, getD, set, length-append, length-map, length-drop, length-set}
-use lib.Seq.{sets, take-suc, take-all, length-take-le, length-sets, sets-eq, getD-drop, drop-length}
+use lib.ListN.{length, take, drop, getD, set, length-map, length-drop, length-set}
+use lib.Seq.{sets, take-suc, length-take-le, sets-eq, getD-drop, drop-length}
 use mir.Syntax.{w32, w64}
 use mir.Val.{toZ, ofZ, SFits}
 use mir.Facts.{toZ-ofZ}
 use Rattle.aps.specs.Elements.{every}
-use Rattle.aps.specs.ScalingSyntax.{eqZ}
 use Rattle.aps.proofs.CodecLaws.{never-true, and-left, and-right}
 use Rattle.aps.proofs.SignedLaws.{not-ltZ}
-use Rattle.aps_c.specs.SetOf.{between, natural, integer, truth, kindOf}
+use Rattle.aps.specs.declared.alf.VvcAlfLuma.{VvcAlfLuma}
+use Rattle.aps.specs.declared.alf.VvcAlfChroma.{VvcAlfChroma}
+use Rattle.aps.specs.declared.alf.VvcAlfCcFilters.{VvcAlfCcFilters}
+use Rattle.aps.specs.declared.alf.VvcAlfData.{VvcAlfData}
+use Rattle.aps.specs.declared.lmcs.VvcLmcsData.{VvcLmcsData}
+use Rattle.aps.specs.declared.scaling_list.VvcScalingListData.{VvcScalingListData}
+use Rattle.aps.specs.declared.aps.ApsKind.{ApsKind}
+use Rattle.aps.specs.declared.aps.VvcAps.{VvcAps}
+use Rattle.aps_c.specs.SetOf.{between, natural, integer, truth, byteAt, wordAt, flagAt, bytesAt, wordsAt, integersAt, flagsAt}
+use Rattle.aps_c.specs.SetOf.{kindOf, lumaOf, chromaOf, ccOf, alfOf, lmcsOf, scalingOf, setOf}
 use Rattle.aps_c.proofs.PutLaws.{Copied, copy-more}
 
 -- ---- the range test
@@ -160,3 +168,69 @@ module _ (f : ℤ → Bool) (src : List ℤ) (from : ℕ) where
   pub test-more : (i : ℕ) {a b : Bool} → from + i < length src → b ≡ (a && f (getD src (from + i) (pos 0))) → Tested i a → Tested (i + 1) b
   test-more i h m e =
       rw (add-one i, take-suc (drop from src) i (pos 0) (omega (arith, length-drop from src)), getD-drop from src i (pos 0), every-last, ← e) m
+
+-- ---- tests one after another
+
+pub stops : {r a : Bool} (b : Bool) → not r ≡ true → r ≡ a → false ≡ (a && b)
+stops {r} {a} b h e = let f : a ≡ false = sym e ∙ not-true r h in rw f
+
+pub passes : {r a b x : Bool} → not r ≡ false → r ≡ a → x ≡ b → x ≡ (a && b)
+passes {r} {a} {b} {x} h e f = let g : a ≡ true = sym e ∙ not-false r h in rw g f
+
+-- ---- the records
+
+module _ (l : List ℤ) (i : ℕ) (r : mag (getD l i (pos 0)) < 2 ^ 63) where
+  pub byte-read : {v : ℕ} → v ≡ natural 255 (toZ w64 (ofZ w64 (getD l i (pos 0)))) → v ≡ byteAt l i
+  unfolding byteAt
+  byte-read e = rw (as-read (getD l i (pos 0)) r) at e
+
+  pub word-read : {v : ℕ} → v ≡ natural 4294967295 (toZ w64 (ofZ w64 (getD l i (pos 0)))) → v ≡ wordAt l i
+  unfolding wordAt
+  word-read e = rw (as-read (getD l i (pos 0)) r) at e
+
+  pub flag-read : {v : Bool} → v ≡ truth (toZ w64 (ofZ w64 (getD l i (pos 0)))) → v ≡ flagAt l i
+  unfolding flagAt
+  flag-read e = rw (as-read (getD l i (pos 0)) r) at e
+
+module _ (l : List ℤ) where
+  pub luma-is : (i : ℕ) {a : Bool} {b : ℕ} {c : List ℕ} {d : List ℕ} {e : List Bool} {f : List ℕ}
+      → a ≡ flagAt l i → b ≡ wordAt l (i + 1) → c ≡ bytesAt l (i + 2) 25 → d ≡ wordsAt l (i + 27) 300 → e ≡ flagsAt l (i + 327) 300 → f ≡ bytesAt l (i + 627) 300
+      → _≡_ {A = VvcAlfLuma} (record { «alf_luma_clip_flag» = a; «alf_luma_num_filters_signalled_minus1» = b; «alf_luma_coeff_delta_idx» = c; «coeff_abs» = d; «coeff_sign» = e; «clip_idx» = f }) (lumaOf l i)
+  unfolding lumaOf
+  luma-is i e0 e1 e2 e3 e4 e5 = rw (e0, e1, e2, e3, e4, e5)
+
+  pub chroma-is : (i : ℕ) {a : Bool} {b : ℕ} {c : List ℕ} {d : List Bool} {e : List ℕ}
+      → a ≡ flagAt l i → b ≡ wordAt l (i + 1) → c ≡ wordsAt l (i + 2) 48 → d ≡ flagsAt l (i + 50) 48 → e ≡ bytesAt l (i + 98) 48
+      → _≡_ {A = VvcAlfChroma} (record { «alf_chroma_clip_flag» = a; «alf_chroma_num_alt_filters_minus1» = b; «coeff_abs» = c; «coeff_sign» = d; «clip_idx» = e }) (chromaOf l i)
+  unfolding chromaOf
+  chroma-is i e0 e1 e2 e3 e4 = rw (e0, e1, e2, e3, e4)
+
+  pub cc-is : (i : ℕ) {a : ℕ} {b : List ℕ} {c : List Bool}
+      → a ≡ wordAt l i → b ≡ bytesAt l (i + 1) 28 → c ≡ flagsAt l (i + 29) 28
+      → _≡_ {A = VvcAlfCcFilters} (record { «filters_signalled_minus1» = a; «mapped_coeff_abs» = b; «coeff_sign» = c }) (ccOf l i)
+  unfolding ccOf
+  cc-is i e0 e1 e2 = rw (e0, e1, e2)
+
+  pub lmcs-is : {a : ℕ} {b : ℕ} {c : ℕ} {d : List ℕ} {e : List Bool} {f : ℕ} {g : Bool}
+      → a ≡ wordAt l 1195 → b ≡ wordAt l 1196 → c ≡ wordAt l 1197 → d ≡ wordsAt l 1198 16 → e ≡ flagsAt l 1214 16 → f ≡ byteAt l 1230 → g ≡ flagAt l 1231
+      → _≡_ {A = VvcLmcsData} (record { «lmcs_min_bin_idx» = a; «lmcs_delta_max_bin_idx» = b; «lmcs_delta_cw_prec_minus1» = c; «lmcs_delta_abs_cw» = d; «lmcs_delta_sign_cw_flag» = e; «lmcs_delta_abs_crs» = f; «lmcs_delta_sign_crs_flag» = g }) (lmcsOf l)
+  unfolding lmcsOf
+  lmcs-is e0 e1 e2 e3 e4 e5 e6 = rw (e0, e1, e2, e3, e4, e5, e6)
+
+  pub scaling-is : {a : List Bool} {b : List Bool} {c : List ℕ} {d : List ℤ} {e : List ℤ}
+      → a ≡ flagsAt l 1232 28 → b ≡ flagsAt l 1260 28 → c ≡ wordsAt l 1288 28 → d ≡ integersAt l 1316 14 → e ≡ integersAt l 1330 1792
+      → _≡_ {A = VvcScalingListData} (record { «copy_mode_flag» = a; «pred_mode_flag» = b; «pred_id_delta» = c; «dc_coef» = d; «scaling_list» = e }) (scalingOf l)
+  unfolding scalingOf
+  scaling-is e0 e1 e2 e3 e4 = rw (e0, e1, e2, e3, e4)
+
+  pub alf-is : {a b c d : Bool} {e : VvcAlfLuma} {f : VvcAlfChroma} {g h : VvcAlfCcFilters}
+      → a ≡ flagAt l 4 → b ≡ flagAt l 5 → c ≡ flagAt l 6 → d ≡ flagAt l 7 → e ≡ lumaOf l 8 → f ≡ chromaOf l 935 → g ≡ ccOf l 1081 → h ≡ ccOf l 1138
+      → _≡_ {A = VvcAlfData} (record { «alf_luma_filter_signal_flag» = a; «alf_chroma_filter_signal_flag» = b; «alf_cc_cb_filter_signal_flag» = c; «alf_cc_cr_filter_signal_flag» = d; luma = e; chroma = f; «cc_cb» = g; «cc_cr» = h }) (alfOf l)
+  unfolding alfOf
+  alf-is e0 e1 e2 e3 e4 e5 e6 e7 = rw (e0, e1, e2, e3, e4, e5, e6, e7)
+
+  pub set-is : {a : ApsKind} {b : ℕ} {c d : Bool} {e : VvcAlfData} {f : VvcLmcsData} {g : VvcScalingListData}
+      → a ≡ kindOf (byteAt l 0) → b ≡ byteAt l 1 → c ≡ flagAt l 2 → d ≡ flagAt l 3 → e ≡ alfOf l → f ≡ lmcsOf l → g ≡ scalingOf l
+      → _≡_ {A = VvcAps} (record { kind = a; «aps_adaptation_parameter_set_id» = b; «aps_chroma_present_flag» = c; «aps_extension_flag» = d; alf = e; lmcs = f; scaling = g }) (setOf l)
+  unfolding setOf
+  set-is e0 e1 e2 e3 e4 e5 e6 = rw (e0, e1, e2, e3, e4, e5, e6)

@@ -1,8 +1,5 @@
 -- `to_kind`: by the number's tests.
-use mathlib.Core.Path.{_≡_}
-use mathlib.Core.Bool.{true, false}
 use borrow.Author.Tests.{eq-eqb, ne-eqb}
-use lib.Dec.{eqb}
 use Rattle.aps_c.specs.SetOf.{kindOf}
 use Rattle.aps_c.proofs.set_of.to_kind.Statement.{statement}
 use Rattle.aps_c.proofs.set_of.to_kind.Tie as tie
