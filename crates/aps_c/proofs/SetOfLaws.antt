@@ -7,7 +7,7 @@ use native.Mathlib.Omega.{arith}
 use borrow.Author.Tests.{eqb-true}
 use lib.Dec.{eqb}
 use lib.IntN.{ℤ, pos, negsuc}
-use lib.ListN.{length, take, drop, getD}
+use lib.ListN.{length, drop, getD}
 use lib.Seq.{take-add, take-all, drop-drop, drop-cons}
 use Rattle.aps.specs.Elements.{every}
 use Rattle.aps.specs.ApsSyntax.{numberOf}
