@@ -1,2 +1,4 @@
 pub mod PutLaws
 pub mod CodeLaws
+pub mod TakeLaws
+pub mod SetOfLaws

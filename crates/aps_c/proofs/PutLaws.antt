@@ -30,17 +30,18 @@ put-then {before} {between} {after} {xs} {ys} {from} {mid} {next} p q =
     record { holds = q .holds ∙ h; ends = omega (arith, p .ends, q .ends, length-append xs ys) }
 
 -- A loop that writes what f makes of each element: where it stands, one turn, and after it.
-module _ {X : Type 0} (f : X → ℤ) (src : List X) (before : List ℤ) (from : ℕ) where
-  abbrev pub Copied : ℕ → List ℤ → Type 0
+module _ {X Y : Type 0} (f : X → Y) (src : List X) (before : List Y) (from : ℕ) where
+  abbrev pub Copied : ℕ → List Y → Type 0
   Copied i out = out ≡ sets before from (map f (take i src))
 
-  pub copy-more : {i : ℕ} {out : List ℤ} {v : ℤ} (d : X) → i < length src → v ≡ f (getD src i d) → Copied i out → Copied (i + 1) (set out (from + i) v)
+  pub copy-more : {i : ℕ} {out : List Y} {v : Y} (d : X) → i < length src → v ≡ f (getD src i d) → Copied i out → Copied (i + 1) (set out (from + i) v)
   copy-more {i} {out} {v} d h m e =
       let n : length (map f (take i src)) ≡ i = length-map (take i src) f ∙ length-take-le i src (omega arith) in
       let k : from + i ≡ from + length (map f (take i src)) = omega arith in
       rw (add-one i, take-suc src i d h, map-append, e, k, m) (sets-append before from (map f (take i src)) (f (getD src i d) ∷ []))
 
-  pub copy-done : {i : ℕ} {out : List ℤ} → length src ≡ i → Copied i out → Put before from (map f src) out (from + i)
+module _ {X : Type 0} (f : X → ℤ) (src : List X) (before : List ℤ) (from : ℕ) where
+  pub copy-done : {i : ℕ} {out : List ℤ} → length src ≡ i → Copied f src before from i out → Put before from (map f src) out (from + i)
   copy-done {i} h e =
       let t : take i src ≡ src = take-all i src (omega arith) in
       let n : length (map f src) ≡ length src = length-map src f in

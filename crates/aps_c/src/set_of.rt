@@ -11,7 +11,7 @@ use aps::aps::VvcAps;
 use aps::lmcs::VvcLmcsData;
 use aps::scaling_list::VvcScalingListData;
 ghost use mathlib.Core.Path.{_≡_};
-ghost use Prim.Native.Nat.{_+_, _≤_, _<_};
+ghost use Prim.Native.Nat.{_+_, _≤_};
 ghost use lib.ListN.{length};
 ghost use Rattle.aps_c.specs.SetOf.{natural, integer, truth, bytesAt, wordsAt, integersAt, flagsAt};
 ghost use Rattle.aps_c.specs.SetOf.{kindOf as kind-of, lumaOf, chromaOf, ccOf, alfOf, lmcsOf, scalingOf, setOf};

@@ -1,58 +1,59 @@
+-- `take_bool`: a turn of the loop takes one field more.
+use Prim.Native.Nat.{_≤_, _-_}
+use borrow.Author.Needs.{needs}
+use native.Mathlib.Omega.{arith}
+use lib.ListN.{length}
+use Rattle.aps_c.specs.SetOf.{truth, flagsAt}
+use Rattle.aps_c.proofs.TakeLaws.{Taken, take-none, take-more, take-done}
 use Rattle.aps_c.proofs.set_of.take_bool.Statement.{statement}
 use Rattle.aps_c.proofs.set_of.take_bool.Tie as tie
-use Rattle.aps_c.proofs.set_of.take_bool.Reads as reads
-use Rattle.aps_c.proofs.set_of.take_bool.Lts as lts
-use Rattle.aps_c.proofs.set_of.to_bool.Reads as to-bool-reads
 
 abbrev Inv-loop : tie.InvT-loop
-Inv-loop src from out₀ i₀ out i = ?
+Inv-loop src from out₀ i₀ out i = (i ≤ length out₀) × Taken truth src from out₀ i out
 
 abbrev μ-loop : tie.MeasureT-loop
-μ-loop src from out₀ i₀ out i = ?
+μ-loop src from out₀ i₀ out i = length out₀ - i
 
--- src/set_of.rt:115:5
 loop-holds : tie.Need-loop-holds Inv-loop μ-loop
-loop-holds c = ?
+loop-holds c =
+    let a = c .before .args in
+    (omega arith, take-none truth (a .src .now) (a .from) (a .out .now))
 
--- src/set_of.rt:116:30
 add-to-bool : tie.Need-add-to-bool Inv-loop μ-loop
-add-to-bool c = ?
+add-to-bool c = search needs
 
--- src/set_of.rt:116:26
 mul-to-bool : tie.Need-mul-to-bool Inv-loop μ-loop
-mul-to-bool c = ?
+mul-to-bool c = search needs
 
--- src/set_of.rt:116:26
 shared-slice-copy-out-to-bool : tie.Need-shared-slice-copy-out-to-bool Inv-loop μ-loop
-shared-slice-copy-out-to-bool c = ?
+shared-slice-copy-out-to-bool c = search needs
 
--- src/set_of.rt:116:18
 to-bool-requires : tie.Need-to-bool-requires Inv-loop μ-loop
-to-bool-requires c κs = ?
+to-bool-requires c κs = search needs
 
--- src/set_of.rt:116:9
 slice-write-out : tie.Need-slice-write-out Inv-loop μ-loop
-slice-write-out c = ?
+slice-write-out c = search needs
 
--- src/set_of.rt:117:9
 add-i : tie.Need-add-i Inv-loop μ-loop
-add-i c = ?
+add-i c = search needs
 
--- src/set_of.rt:115:5
 loop-less : tie.Need-loop-less Inv-loop μ-loop
-loop-less c = ?
+loop-less c = search needs
 
--- src/set_of.rt:115:5
 loop-again : tie.Need-loop-again Inv-loop μ-loop
-loop-again c = ?
+loop-again c =
+    let l = c .before .before .before in
+    let a = l .before .before in
+    (omega arith, take-more truth (a .args .src .now) (a .args .from) (a .args .out .now) (a .pre .0) (omega arith) (c .before .to-bool-arg .given) (c .to-bool .ensures) (l .loop .inv .1))
 
--- src/set_of.rt:110:1
 same-length : tie.Need-same-length Inv-loop μ-loop
-same-length c = ?
+same-length c = c .before .loop .inv .1 .size
 
--- src/set_of.rt:110:1
 returns : tie.Need-returns Inv-loop μ-loop
-returns c = ?
+unfolding flagsAt
+returns c =
+    let a = c .before .before .before in
+    take-done truth (a .args .src .now) (a .args .from) (a .args .out .now) (a .pre .0) (omega arith) (c .before .loop .inv .0) (c .before .loop .inv .1)
 
 pub take-bool-spec : {M : Type 1} → statement M
 take-bool-spec =

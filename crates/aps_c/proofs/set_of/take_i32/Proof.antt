@@ -1,62 +1,62 @@
+-- `take_i32`: a turn of the loop takes one field more.
+use Prim.Native.Nat.{_≤_, _-_}
+use borrow.Author.Needs.{needs}
+use native.Mathlib.Omega.{arith}
+use lib.ListN.{length}
+use Rattle.aps_c.specs.SetOf.{integer, integersAt}
+use Rattle.aps_c.proofs.TakeLaws.{Taken, take-none, take-more, take-done, as-written}
 use Rattle.aps_c.proofs.set_of.take_i32.Statement.{statement}
 use Rattle.aps_c.proofs.set_of.take_i32.Tie as tie
-use Rattle.aps_c.proofs.set_of.take_i32.Reads as reads
-use Rattle.aps_c.proofs.set_of.take_i32.Lts as lts
-use Rattle.aps_c.proofs.set_of.to_i32.Reads as to-i32-reads
 
 abbrev Inv-loop : tie.InvT-loop
-Inv-loop src from out₀ i₀ out i = ?
+Inv-loop src from out₀ i₀ out i = (i ≤ length out₀) × Taken integer src from out₀ i out
 
 abbrev μ-loop : tie.MeasureT-loop
-μ-loop src from out₀ i₀ out i = ?
+μ-loop src from out₀ i₀ out i = length out₀ - i
 
--- src/set_of.rt:104:5
 loop-holds : tie.Need-loop-holds Inv-loop μ-loop
-loop-holds c = ?
+loop-holds c =
+    let a = c .args in
+    (omega arith, take-none integer (a .src .now) (a .from) (a .out .now))
 
--- src/set_of.rt:105:29
 add-to-i32 : tie.Need-add-to-i32 Inv-loop μ-loop
-add-to-i32 c = ?
+add-to-i32 c = search needs
 
--- src/set_of.rt:105:25
 mul-to-i32 : tie.Need-mul-to-i32 Inv-loop μ-loop
-mul-to-i32 c = ?
+mul-to-i32 c = search needs
 
--- src/set_of.rt:105:25
 shared-slice-copy-out-to-i32 : tie.Need-shared-slice-copy-out-to-i32 Inv-loop μ-loop
-shared-slice-copy-out-to-i32 c = ?
+shared-slice-copy-out-to-i32 c = search needs
 
--- src/set_of.rt:105:18
 to-i32-requires : tie.Need-to-i32-requires Inv-loop μ-loop
-to-i32-requires c κs = ?
+to-i32-requires c κs = search needs
 
--- src/set_of.rt:105:9
 mul-t11 : tie.Need-mul-t11 Inv-loop μ-loop
-mul-t11 c = ?
+mul-t11 c = search needs
 
--- src/set_of.rt:105:9
 slice-set-from-out : tie.Need-slice-set-from-out Inv-loop μ-loop
-slice-set-from-out c = ?
+slice-set-from-out c = search needs
 
--- src/set_of.rt:106:9
 add-i : tie.Need-add-i Inv-loop μ-loop
-add-i c = ?
+add-i c = search needs
 
--- src/set_of.rt:104:5
 loop-less : tie.Need-loop-less Inv-loop μ-loop
-loop-less c = ?
+loop-less c = search needs
 
--- src/set_of.rt:104:5
 loop-again : tie.Need-loop-again Inv-loop μ-loop
-loop-again c = ?
+loop-again c =
+    let l = c .before .before .before in
+    let a = l .before in
+    (omega arith, take-more integer (a .args .src .now) (a .args .from) (a .args .out .now) (a .pre .0) (omega arith) (c .before .to-i32-arg .given) (as-written _ (c .to-i32 .ensures)) (l .loop .inv .1))
 
--- src/set_of.rt:99:1
 same-length : tie.Need-same-length Inv-loop μ-loop
-same-length c = ?
+same-length c = c .before .loop .inv .1 .size
 
--- src/set_of.rt:99:1
 returns : tie.Need-returns Inv-loop μ-loop
-returns c = ?
+unfolding integersAt
+returns c =
+    let a = c .before .before in
+    take-done integer (a .args .src .now) (a .args .from) (a .args .out .now) (a .pre .0) (omega arith) (c .before .loop .inv .0) (c .before .loop .inv .1)
 
 pub take-i32-spec : {M : Type 1} → statement M
 take-i32-spec =

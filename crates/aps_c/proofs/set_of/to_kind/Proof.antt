@@ -1,19 +1,20 @@
+-- `to_kind`: by the number's tests.
+use borrow.Author.Tests.{eq-eqb, ne-eqb}
+use Rattle.aps_c.specs.SetOf.{kindOf}
 use Rattle.aps_c.proofs.set_of.to_kind.Statement.{statement}
 use Rattle.aps_c.proofs.set_of.to_kind.Tie as tie
-use Rattle.aps_c.proofs.set_of.to_kind.Reads as reads
-use Rattle.aps_c.proofs.set_of.to_kind.Lts as lts
 
--- src/set_of.rt:68:9
 returns : tie.Need-returns
-returns c = ?
+unfolding kindOf
+returns c = rw (eq-eqb (c .before .args .n) 1 (c .if1 .taken))
 
--- src/set_of.rt:71:9
 returns-2 : tie.Need-returns-2
-returns-2 c = ?
+unfolding kindOf
+returns-2 c = rw (ne-eqb (c .before .before .args .n) 1 (c .before .if1 .left), eq-eqb (c .before .before .args .n) 2 (c .if2 .taken))
 
--- src/set_of.rt:64:1
 returns-3 : tie.Need-returns-3
-returns-3 c = ?
+unfolding kindOf
+returns-3 c = rw (ne-eqb (c .before .before .args .n) 1 (c .before .if1 .left), ne-eqb (c .before .before .args .n) 2 (c .if2 .left))
 
 pub to-kind-spec : {M : Type 1} → statement M
 to-kind-spec = tie.close (tie.spec returns returns-2 returns-3)
