@@ -24,6 +24,7 @@ pub mod Steps
 pub mod StopLaws
 pub mod WriteSteps
 pub mod PutLaws
+pub mod AlfWrites
 pub mod LmcsWrites
 pub mod RbspWrites
 pub mod AlfSteps

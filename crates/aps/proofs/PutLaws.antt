@@ -38,7 +38,7 @@ pub ueTo-fits : (most v : ℕ) → most < 4294967295 → v ≤ most → (ueTo mo
 unfolding ueTo judged ue
 ueTo-fits most v h l = and-both (ltb v 4294967295) (leb v most) (lt-ltb v 4294967295 (omega arith)) (le-leb v most l)
 
-and-false : (b : Bool) → (b && false) ≡ false
+pub and-false : (b : Bool) → (b && false) ≡ false
 and-false true = refl
 and-false false = refl
 
@@ -108,7 +108,7 @@ sign-after c {abs} {sign} {m} v w = wrote-▷ c (λ a. when (not (eqb a 0)) noFl
 
 -- ---- arrays of which nothing is sent
 
-and-true : (b : Bool) → (b && true) ≡ b
+pub and-true : (b : Bool) → (b && true) ≡ b
 and-true true = refl
 and-true false = refl
 

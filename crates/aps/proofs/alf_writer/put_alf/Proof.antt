@@ -1,39 +1,65 @@
+-- `put_alf`: the four flags, then what they announce.
 use borrow.Author.Needs.{needs}
+use Prim.Native.Nat.{_+_}
+use native.Mathlib.Omega.{arith}
+use Rattle.aps.proofs.StopLaws.{stops-more}
+use Rattle.aps.proofs.AlfWrites.{alf-wrote}
 use Rattle.aps.proofs.alf_writer.put_alf.Statement.{statement}
 use Rattle.aps.proofs.alf_writer.put_alf.Tie as tie
-use Rattle.aps.proofs.alf_writer.put_alf.Reads as reads
-use Rattle.aps.proofs.alf_writer.put_alf.Lts as lts
-use Rattle.aps.proofs.alf_writer.put_alf_filters.Reads as put-alf-filters-reads
-use Rattle.aps.proofs.alf_writer.put_chroma_flag.Reads as put-chroma-flag-reads
-use Rattle.aps.proofs.put.put_flag.Reads as put-flag-reads
 
--- src/alf_writer.rt:336:9
 put-flag-requires : tie.Need-put-flag-requires
-put-flag-requires c κs = ?
+put-flag-requires c κs =
+    let b = c .before .before in
+    (search needs, stops-more (b .args .from) 100 32700 (b .pre .1) (omega arith))
 
--- src/alf_writer.rt:337:9
 put-chroma-flag-requires : tie.Need-put-chroma-flag-requires
-put-chroma-flag-requires c κs = ?
+put-chroma-flag-requires c κs =
+    let l = c .before .before .before in
+    let b = l .before .before .before in
+    (search needs, stops-more (l .put-flag .result) (100 + 1) 32700 (l .put-flag .ensures .within 100 (b .pre .1)) (omega arith))
 
--- src/alf_writer.rt:338:9
 put-chroma-flag-requires-2 : tie.Need-put-chroma-flag-requires-2
-put-chroma-flag-requires-2 c κs = ?
+put-chroma-flag-requires-2 c κs =
+    let h = c .before .before .before in
+    let l = h .before .before .before .before in
+    let b = l .before .before .before in
+    (search needs, stops-more (h .put-chroma-flag .result) (100 + 1 + 1) 32700 (h .put-chroma-flag .ensures .within (100 + 1) (l .put-flag .ensures .within 100 (b .pre .1))) (omega arith))
 
--- src/alf_writer.rt:339:9
 put-chroma-flag-requires-3 : tie.Need-put-chroma-flag-requires-3
-put-chroma-flag-requires-3 c κs = ?
+put-chroma-flag-requires-3 c κs =
+    let k = c .before .before .before in
+    let h = k .before .before .before .before in
+    let l = h .before .before .before .before in
+    let b = l .before .before .before in (
+      search needs,
+      stops-more (k .put-chroma-flag2 .result) (100 + 1 + 1 + 1) 32700
+          (k .put-chroma-flag2 .ensures .within (100 + 1 + 1) (h .put-chroma-flag .ensures .within (100 + 1) (l .put-flag .ensures .within 100 (b .pre .1)))) (omega arith),
+    )
 
--- src/alf_writer.rt:340:5
 put-alf-filters-requires : tie.Need-put-alf-filters-requires
-put-alf-filters-requires c κs = ?
+put-alf-filters-requires c κs =
+    let g = c .before .before .before in
+    let k = g .before .before .before .before in
+    let h = k .before .before .before .before in
+    let l = h .before .before .before .before in
+    let b = l .before .before .before in (
+      search needs,
+      stops-more (g .put-chroma-flag3 .result) (100 + 1 + 1 + 1 + 1) 1000
+          (g .put-chroma-flag3 .ensures .within (100 + 1 + 1 + 1)
+          (k .put-chroma-flag2 .ensures .within (100 + 1 + 1) (h .put-chroma-flag .ensures .within (100 + 1) (l .put-flag .ensures .within 100 (b .pre .1))))) (omega arith),
+    )
 
--- src/alf_writer.rt:332:1
 same-length : tie.Need-same-length
 same-length c = search needs
 
--- src/alf_writer.rt:332:1
 returns : tie.Need-returns
-returns c = ?
+returns c =
+    let g = c .before .before .before .before .before .before in
+    let k = g .before .before .before .before in
+    let h = k .before .before .before .before in
+    let l = h .before .before .before .before in
+    let a = l .before .before .before .args in
+    alf-wrote (a .chroma) (a .d) (l .put-flag .ensures) (h .put-chroma-flag .ensures) (k .put-chroma-flag2 .ensures) (g .put-chroma-flag3 .ensures) (c .before .before .put-alf-filters .ensures)
 
 pub put-alf-spec : {M : Type 1} → statement M
 put-alf-spec =

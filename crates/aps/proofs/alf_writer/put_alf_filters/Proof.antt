@@ -1,43 +1,54 @@
+-- `put_alf_filters`: the four parts one after another.
 use borrow.Author.Needs.{needs}
+use Prim.Native.Nat.{_+_}
+use native.Mathlib.Omega.{arith}
+use Rattle.aps.proofs.StopLaws.{stops-more}
+use Rattle.aps.proofs.AlfWrites.{alf-filters-wrote}
 use Rattle.aps.proofs.alf_writer.put_alf_filters.Statement.{statement}
 use Rattle.aps.proofs.alf_writer.put_alf_filters.Tie as tie
-use Rattle.aps.proofs.alf_writer.put_alf_filters.Reads as reads
-use Rattle.aps.proofs.alf_writer.put_alf_filters.Lts as lts
-use Rattle.aps.proofs.alf_writer.put_cc.Reads as put-cc-reads
-use Rattle.aps.proofs.alf_writer.put_chroma.Reads as put-chroma-reads
-use Rattle.aps.proofs.alf_writer.put_luma.Reads as put-luma-reads
 
--- src/alf_writer.rt:314:9
 put-luma-requires : tie.Need-put-luma-requires
-put-luma-requires c κs = ?
+put-luma-requires c κs =
+    let b = c .before .before .before .before .before .before in
+    (search needs, stops-more (b .args .from) 1000 5000 (b .pre .1) (omega arith))
 
--- src/alf_writer.rt:315:9
 put-chroma-requires : tie.Need-put-chroma-requires
-put-chroma-requires c κs = ?
+put-chroma-requires c κs =
+    let l = c .before .before .before in
+    let b = l .before .before .before .before .before .before .before in
+    (search needs, stops-more (l .put-luma .result) (1000 + 6300) 14000 (l .put-luma .ensures .within 1000 (b .pre .1)) (omega arith))
 
--- src/alf_writer.rt:316:9
 put-cc-requires : tie.Need-put-cc-requires
-put-cc-requires c κs = ?
+put-cc-requires c κs =
+    let h = c .before .before .before in
+    let l = h .before .before .before .before in
+    let b = l .before .before .before .before .before .before .before in (
+      search needs,
+      stops-more (h .put-chroma .result) (1000 + 6300 + 872) 19000 (h .put-chroma .ensures .within (1000 + 6300) (l .put-luma .ensures .within 1000 (b .pre .1))) (omega arith),
+    )
 
--- src/alf_writer.rt:317:5
 put-cc-requires-2 : tie.Need-put-cc-requires-2
-put-cc-requires-2 c κs = ?
+put-cc-requires-2 c κs =
+    let k = c .before .before .before in
+    let h = k .before .before .before .before in
+    let l = h .before .before .before .before in
+    let b = l .before .before .before .before .before .before .before in (
+      search needs,
+      stops-more (k .put-cc .result) (1000 + 6300 + 872 + 117) 19000 (k .put-cc .ensures .within (1000 + 6300 + 872) (h .put-chroma .ensures .within (1000 + 6300) (l .put-luma .ensures .within 1000 (b .pre .1))))
+          (omega arith),
+    )
 
--- src/alf_writer.rt:305:1
 same-length : tie.Need-same-length
 same-length c = search needs
 
--- src/alf_writer.rt:305:1
 returns : tie.Need-returns
-returns c = ?
+returns c =
+    let k = c .before .before .before .before .before .before in
+    let h = k .before .before .before .before in
+    let l = h .before .before .before .before in
+    let d = l .before .before .before .before .before .before .before .args .d in
+    alf-filters-wrote (d .«alf_luma_filter_signal_flag») (d .«alf_chroma_filter_signal_flag») (d .«alf_cc_cb_filter_signal_flag») (d .«alf_cc_cr_filter_signal_flag») (d .luma) (d .chroma) (d .«cc_cb») (d .«cc_cr»)
+    (l .put-luma .ensures) (h .put-chroma .ensures) (k .put-cc .ensures) (c .before .before .put-cc2 .ensures)
 
 pub put-alf-filters-spec : {M : Type 1} → statement M
-put-alf-filters-spec =
-    tie.close
-    (tie.spec
-    put-luma-requires
-    put-chroma-requires
-    put-cc-requires
-    put-cc-requires-2
-    same-length
-    returns)
+put-alf-filters-spec = tie.close (tie.spec put-luma-requires put-chroma-requires put-cc-requires put-cc-requires-2 same-length returns)

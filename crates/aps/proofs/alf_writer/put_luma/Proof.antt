@@ -1,85 +1,94 @@
-use borrow.Author.Needs.{needs}
+-- `put_luma`: the flag, the count, then the filters; nothing where they are not signalled.
+use borrow.Author.Needs.{needs, length-unmapped}
+use borrow.Author.Tests.{not-true, not-false}
+use mathlib.Core.Bool.{Bool}
+use Prim.Native.Nat.{ℕ, _+_, _*_}
+use native.Mathlib.Omega.{arith}
+use Rattle.bitstream.specs.Fields.{ueZeros}
+use Rattle.aps.proofs.StopLaws.{stops-more}
+use Rattle.aps.proofs.AlfWrites.{count-24, luma-none, luma-bad, luma-sent}
 use Rattle.aps.proofs.alf_writer.put_luma.Statement.{statement}
 use Rattle.aps.proofs.alf_writer.put_luma.Tie as tie
-use Rattle.aps.proofs.alf_writer.put_luma.Reads as reads
-use Rattle.aps.proofs.alf_writer.put_luma.Lts as lts
-use Rattle.aps.proofs.alf_writer.no_luma_sent.Reads as no-luma-sent-reads
-use Rattle.aps.proofs.alf_writer.put_luma_filters.Reads as put-luma-filters-reads
-use Rattle.aps.proofs.put.put_flag.Reads as put-flag-reads
-use Rattle.aps.proofs.put.put_none.Reads as put-none-reads
-use Rattle.aps.proofs.put.put_ue_to.Reads as put-ue-to-reads
 
--- src/alf_writer.rt:154:57
 slice-aggregate-no-luma-sent : tie.Need-slice-aggregate-no-luma-sent
 slice-aggregate-no-luma-sent c = search needs
 
--- src/alf_writer.rt:154:63
 slice-aggregate-no-luma-sent-2 : tie.Need-slice-aggregate-no-luma-sent-2
 slice-aggregate-no-luma-sent-2 c = search needs
 
--- src/alf_writer.rt:154:69
 slice-aggregate-no-luma-sent-3 : tie.Need-slice-aggregate-no-luma-sent-3
 slice-aggregate-no-luma-sent-3 c = search needs
 
--- src/alf_writer.rt:154:76
 slice-aggregate-no-luma-sent-4 : tie.Need-slice-aggregate-no-luma-sent-4
 slice-aggregate-no-luma-sent-4 c = search needs
 
--- src/alf_writer.rt:154:31
 no-luma-sent-requires : tie.Need-no-luma-sent-requires
 no-luma-sent-requires c κs = search needs
 
--- src/alf_writer.rt:154:9
 put-none-requires : tie.Need-put-none-requires
 put-none-requires c κs = search needs
 
--- src/alf_writer.rt:154:9
 returns : tie.Need-returns
-returns c = ?
+returns c =
+    let a = c .before .before .before .before .before .before .before .before .before .before .before .before .args in
+    luma-none (a .signal) (a .d) (not-true (a .signal) (c .before .before .before .before .before .before .if1 .taken)) (c .before .no-luma-sent .ensures) (c .put-none .ensures)
 
--- src/alf_writer.rt:157:9
 put-none-requires-2 : tie.Need-put-none-requires-2
 put-none-requires-2 c κs = search needs
 
--- src/alf_writer.rt:157:9
 returns-2 : tie.Need-returns-2
-returns-2 c = ?
+returns-2 c =
+    let a = c .before .before .before .before .before .before .before .before .args in
+    luma-bad (a .signal) (a .d) (not-false (a .signal) (c .before .before .if1 .left)) (c .before .if2 .taken) (c .put-none2 .ensures)
 
--- src/alf_writer.rt:159:9
 put-flag-requires : tie.Need-put-flag-requires
-put-flag-requires c κs = ?
+put-flag-requires c κs =
+    let b = c .before .before .before .before .before .before .before .before in
+    (search needs, stops-more (b .args .from) 5000 32700 (b .pre .1) (omega arith))
 
--- src/alf_writer.rt:160:9
 put-ue-to-requires : tie.Need-put-ue-to-requires
-put-ue-to-requires c κs = ?
+put-ue-to-requires c κs =
+    let f = c .before .before .before in
+    let b = f .before .before .before .before .before .before .before .before .before in
+    (search needs, stops-more (f .put-flag .result) (5000 + 1) 32700 (f .put-flag .ensures .within 5000 (b .pre .1)) (omega arith), omega arith)
 
--- src/alf_writer.rt:161:49
 slice-aggregate-put-luma-filters : tie.Need-slice-aggregate-put-luma-filters
 slice-aggregate-put-luma-filters c = search needs
 
--- src/alf_writer.rt:161:55
 slice-aggregate-put-luma-filters-2 : tie.Need-slice-aggregate-put-luma-filters-2
 slice-aggregate-put-luma-filters-2 c = search needs
 
--- src/alf_writer.rt:161:61
 slice-aggregate-put-luma-filters-3 : tie.Need-slice-aggregate-put-luma-filters-3
 slice-aggregate-put-luma-filters-3 c = search needs
 
--- src/alf_writer.rt:161:68
 slice-aggregate-put-luma-filters-4 : tie.Need-slice-aggregate-put-luma-filters-4
 slice-aggregate-put-luma-filters-4 c = search needs
 
--- src/alf_writer.rt:161:5
 put-luma-filters-requires : tie.Need-put-luma-filters-requires
-put-luma-filters-requires c κs = ?
+put-luma-filters-requires c κs =
+    let k = c .before .before .before .before .before .before .before in
+    let f = k .before .before .before .before in
+    let b = f .before .before .before .before .before .before .before .before .before in
+    let d = b .args .d in
+    let h = b .good .1 .1 .1 .0 .1 .1 .1 .1 in (
+      search needs,
+      stops-more (k .put-ue-to .result) (5000 + 1 + (2 * ueZeros 24 + 1)) 10000 (k .put-ue-to .ensures .within (5000 + 1) (f .put-flag .ensures .within 5000 (b .pre .1))) (omega (arith, count-24)),
+      omega arith,
+      length-unmapped ℕ (d .«alf_luma_coeff_delta_idx») 25 (h .0 .1 .0 .1),
+      length-unmapped ℕ (d .«coeff_abs») 300 (h .1 .0 .1 .0 .1),
+      length-unmapped Bool (d .«coeff_sign») 300 (h .1 .1 .0 .1 .0 .1),
+      length-unmapped ℕ (d .«clip_idx») 300 (h .1 .1 .1 .0 .1 .0 .1),
+    )
 
--- src/alf_writer.rt:143:1
 same-length : tie.Need-same-length
 same-length c = search needs
 
--- src/alf_writer.rt:143:1
 returns-3 : tie.Need-returns-3
-returns-3 c = ?
+returns-3 c =
+    let k = c .before .before .before .before .before .before .before .before .before .before in
+    let f = k .before .before .before .before in
+    let a = f .before .before .before .before .before .before .before .before .before .args in
+    luma-sent (a .signal) (a .d) (not-false (a .signal) (f .before .before .before .if1 .left)) (f .put-flag .ensures) (k .put-ue-to .ensures) (c .before .before .put-luma-filters .ensures)
 
 pub put-luma-spec : {M : Type 1} → statement M
 put-luma-spec =
