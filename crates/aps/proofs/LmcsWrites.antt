@@ -3,10 +3,10 @@ use borrow.Author.Tests.{le-leb, eq-eqb}
 use mathlib.Core.Path.{_≡_, refl, ap, _∙_}
 use mathlib.Core.Bool.{Bool, true, false, not, _&&_}
 use mathlib.Core.List.{List, [], _∷_}
-use Prim.Native.Nat.{ℕ, zero, suc, _+_, _-_, _*_, _≤_, _<_}
+use Prim.Native.Nat.{ℕ, zero, suc, _+_, _≤_}
 use native.Mathlib.Omega.{arith}
 use lib.Dec.{leb, eqb}
-use lib.ListN.{length, getD, drop}
+use lib.ListN.{length, drop}
 use Rattle.aps.specs.Codec.{Codec, u, ue, _▷_, via, judged, when, each}
 use Rattle.aps.specs.Elements.{ueTo, signed, noSigned, firsts, seconds, zipped, apart}
 use Rattle.aps.specs.LmcsSyntax.{inRange, codedFrom, lmcsHead, lmcsCodewords, lmcsChroma, lmcsSyntax, toLmcs, fromLmcs, lmcs}
@@ -17,6 +17,7 @@ use Rattle.aps.specs.declared.fields.Stop.{Stop}
 use Rattle.aps.specs.declared.fields.Stop.the-variants as Stop
 use Rattle.aps.specs.declared.lmcs.VvcLmcsData.{VvcLmcsData}
 use Rattle.aps.proofs.LmcsSteps.{in-range}
+use Rattle.aps.proofs.PutLaws.{and-false}
 use Rattle.aps.proofs.WriteSteps.{writes-judged, wrote-as, wrote-none, wrote-more, wrote-judged, wrote-via, wrote-▷}
 
 -- ---- a magnitude and its sign that are not sent
@@ -52,13 +53,6 @@ head-wrote min max prec t v w x =
 -- ---- the codewords
 
 module _ {A B : Type 0} where
-  pub zipped-step : (a : List A) (b : List B) (i : ℕ) (x : A) (y : B) → i < length a → i < length b
-      → drop i (zipped a b) ≡ (getD a i x, getD b i y) ∷ drop (suc i) (zipped a b)
-  zipped-step [] b i x y h k = absurd (omega arith)
-  zipped-step (v ∷ a) [] i x y h k = absurd (omega arith)
-  zipped-step (v ∷ a) (w ∷ b) zero x y h k = refl
-  zipped-step (v ∷ a) (w ∷ b) (suc i) x y h k = zipped-step a b i x y (omega arith) (omega arith)
-
   pub zipped-end : (a : List A) (b : List B) (n : ℕ) → length a ≡ n → drop n (zipped a b) ≡ []
   zipped-end [] b zero e = refl
   zipped-end [] b (suc n) e = refl
@@ -80,18 +74,10 @@ codewords-wrote min max prec abs sign e w s =
 
 -- ---- the whole
 
-no-and : (a b : Bool) → (((a && false) && b) && true) ≡ false
-no-and true b = refl
-no-and false b = refl
-
 pub lmcs-out-of-range : (chroma : Bool) (d : VvcLmcsData)
     → inRange (d .«lmcs_min_bin_idx», (d .«lmcs_delta_max_bin_idx», d .«lmcs_delta_cw_prec_minus1»)) ≡ false → (lmcs chroma) .ok d ≡ false
 unfolding lmcs via fromLmcs lmcsSyntax _▷_ judged
-lmcs-out-of-range chroma d e =
-    rw e
-    (no-and (ue .ok (d .«lmcs_min_bin_idx») && (ue .ok (d .«lmcs_delta_max_bin_idx») && ue .ok (d .«lmcs_delta_cw_prec_minus1»)))
-    ((lmcsCodewords (d .«lmcs_min_bin_idx», (d .«lmcs_delta_max_bin_idx», d .«lmcs_delta_cw_prec_minus1»))) .ok (d .«lmcs_delta_abs_cw», d .«lmcs_delta_sign_cw_flag»)
-    && (lmcsChroma chroma) .ok (d .«lmcs_delta_abs_crs», d .«lmcs_delta_sign_crs_flag»)))
+lmcs-out-of-range chroma d e = rw (e, and-false (ue .ok (d .«lmcs_min_bin_idx») && (ue .ok (d .«lmcs_delta_max_bin_idx») && ue .ok (d .«lmcs_delta_cw_prec_minus1»))))
 
 pub lmcs-wrote : (chroma : Bool) (d : VvcLmcsData) {a b c e : Stop} {o o₁ o₂ o₃ : List ℕ}
     → Wrote lmcsHead (d .«lmcs_min_bin_idx», (d .«lmcs_delta_max_bin_idx», d .«lmcs_delta_cw_prec_minus1»)) 25 a b o o₁

@@ -2,15 +2,15 @@
 use borrow.Author.Tests.{lt-ltb, le-ltb, le-leb, lt-leb, ltb-true, ltb-false, eqb-true}
 use borrow.Rule.Slice.PartMut.{midOf, putMid, put-same}
 use mathlib.Core.Path.{_≡_, refl, sym, ap, _∙_}
-use mathlib.Core.Bool.{Bool, true, false, cond, _&&_, _||_}
+use mathlib.Core.Bool.{Bool, true, false, cond, _||_}
 use mathlib.Core.List.{List, [], _∷_, _++_, append-nil}
 use Prim.Native.Nat.{ℕ, zero, suc, _+_, _-_, _*_, _/_, _%_, _≤_, _<_}
 use native.Mathlib.Nat.{zero-add}
 use native.Mathlib.Omega.{arith}
 use lib.Dec.{leb, ltb, eqb}
-use lib.ListN.{length, getD, take, drop, set, length-append, length-drop}
+use lib.ListN.{length, getD, take, drop, set, length-drop}
 use lib.Seq.{take-length, drop-length, drop-cons, take-append-seam, length-take-le}
-use Rattle.bitstream.specs.Outcome.{Outcome, value, refused, number, left, _then_}
+use Rattle.bitstream.specs.Outcome.{Outcome, value, refused, left, _then_}
 use Rattle.bitstream.specs.Bits.{putBits, pack}
 use Rattle.bitstream.specs.Fields.{trailingBits}
 use Rattle.bitstream.specs.Writing.{writeTrailingAt}
@@ -36,14 +36,11 @@ use Rattle.aps.specs.declared.fields.Stop.{Stop}
 use Rattle.aps.specs.declared.fields.Stop.the-variants as Stop
 use Rattle.aps.specs.declared.alf.VvcAlfData.{VvcAlfData}
 use Rattle.aps.specs.declared.lmcs.VvcLmcsData.{VvcLmcsData}
+use Rattle.aps.proofs.PutLaws.{and-false}
 use Rattle.aps.proofs.RbspLaws.{length-rbsp, bits-rbsp}
 use Rattle.aps.proofs.WriteSteps.{writes-via, wrote-as, wrote-▷, wrote-more, wrote-judged, wrote-provided, wrote-via}
 
 -- ---- the payload
-
-and-false : (b : Bool) → (b && false) ≡ false
-and-false true = refl
-and-false false = refl
 
 -- an id that the kind does not have
 module _ (id : ℕ) (chroma : Bool) where

@@ -1,5 +1,5 @@
 -- `copy_out`: the bytes below i are copied; the rest of the output is as it was.
-use Prim.Native.Nat.{_+_, _-_, _≤_}
+use Prim.Native.Nat.{_-_, _≤_}
 use native.Mathlib.Omega.{arith}
 use denote.Ref.{now}
 use lib.ListN.{length, drop}

@@ -1,8 +1,7 @@
 -- `write_aps`: the bytes of the set, put at the start of the output.
 use borrow.Author.Needs.{needs}
-use native.Mathlib.Omega.{arith}
 use denote.Ref.{now}
-use mathlib.Core.Path.{_≡_, sym, _∙_}
+use mathlib.Core.Path.{_≡_, sym}
 use lib.ListN.{take}
 use Rattle.bitstream.specs.Outcome.{value}
 use Rattle.aps.specs.Writing.{bytesDue}

@@ -1,17 +1,18 @@
 -- `put_codewords`: bins below i are written; those that are not coded take no bits.
 use borrow.Author.Needs.{needs}
-use Prim.Native.Nat.{ℕ, suc, _+_, _-_, _*_, _≤_, _<_}
+use Prim.Native.Nat.{suc, _+_, _-_, _*_, _≤_}
 use mathlib.Core.Path.{_≡_, refl, sym, _∙_}
 use mathlib.Core.Bool.{false}
 use native.Mathlib.Omega.{arith}
 use denote.Ref.{now}
-use lib.ListN.{length, getD, drop}
+use lib.ListN.{length, getD}
 use Rattle.aps.specs.Elements.{zipped}
 use Rattle.aps.specs.Stops.{Spans}
 use Rattle.aps.proofs.LmcsSteps.{in-range}
 use Rattle.aps.proofs.StopLaws.{stops-more}
 use Rattle.aps.proofs.WriteSteps.{spans-then, spans-more, Writing, writing-start, writing-more, writing-done}
-use Rattle.aps.proofs.LmcsWrites.{bin, zipped-step, zipped-end, codewords-wrote}
+use Rattle.aps.proofs.AlfWrites.{zipped-step}
+use Rattle.aps.proofs.LmcsWrites.{bin, zipped-end, codewords-wrote}
 use Rattle.aps.proofs.lmcs_writer.put_codewords.Statement.{statement}
 use Rattle.aps.proofs.lmcs_writer.put_codewords.Tie as tie
 
@@ -78,7 +79,7 @@ loop-again c =
       rw e
           (writing-more (bin (a .min) (a .max) (a .prec)) 16 (zipped (now (a .abs)) (now (a .sign))) (a .from) (now (a .out)) (o .i) (o .at) (k .put-signed-if .result) (o .out) (k .put-signed-if .last .0)
           (getD (now (a .abs)) (o .i) 0, getD (now (a .sign)) (o .i) false) (a .prec + 1 + 1) (omega arith)
-          (zipped-step (now (a .abs)) (now (a .sign)) (o .i) 0 false (omega (arith, b .pre .3)) (omega (arith, b .pre .4))) (o .inv .3) w),
+          (zipped-step (o .i) (now (a .abs)) (now (a .sign)) 0 false (b .pre .4 ∙ sym (b .pre .3)) (omega (arith, b .pre .3))) (o .inv .3) w),
     )
 
 same-length : tie.Need-same-length Inv-loop μ-loop

@@ -2,10 +2,9 @@
 use borrow.Author.Needs.{needs}
 use borrow.Author.Tests.{not-true, not-false}
 use denote.Ref.{now}
-use mathlib.Core.Path.{_≡_, refl, sym, _∙_}
-use mathlib.Core.Bool.{true, false}
+use mathlib.Core.Path.{_≡_, sym, _∙_}
 use native.Mathlib.Omega.{arith}
-use Rattle.aps.specs.LmcsSyntax.{inRange, lmcs}
+use Rattle.aps.specs.LmcsSyntax.{lmcs}
 use Rattle.aps.proofs.StopLaws.{stops-more}
 use Rattle.aps.proofs.WriteSteps.{wrote-bad}
 use Rattle.aps.proofs.LmcsWrites.{lmcs-out-of-range, lmcs-wrote}
