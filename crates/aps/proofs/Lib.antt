@@ -12,10 +12,7 @@ pub mod ApsLaws
 pub mod PackLaws
 pub mod ExtensionLaws
 pub mod RbspLaws
-pub mod RoundTrips
-pub mod InferredLaws
 pub mod LocalLaws
-pub mod Marked
 pub mod Answers
 pub mod Below
 pub mod Bounds
@@ -24,16 +21,10 @@ pub mod RowLaws
 pub mod SignedLaws
 pub mod Steps
 pub mod StopLaws
-pub mod WriteSteps
-pub mod PutLaws
-pub mod AlfWrites
-pub mod LmcsWrites
-pub mod RbspWrites
 pub mod AlfSteps
 pub mod AlternativeSteps
 pub mod LmcsSteps
 pub mod ScalingKeep
 pub mod ScalingSteps
-pub mod ScalingWrites
 pub mod RbspSteps
 pub mod UnitSteps

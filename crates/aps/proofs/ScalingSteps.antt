@@ -2,7 +2,7 @@
 use mathlib.Core.Path.{_≡_, refl, sym, ap, _∙_}
 use mathlib.Core.Bool.{Bool, true, false, cond, not, _&&_, _||_}
 use mathlib.Core.List.{List, [], _∷_}
-use Prim.Native.Nat.{ℕ, zero, suc, _+_, _-_, _*_, _≤_, _<_}
+use Prim.Native.Nat.{ℕ, zero, suc, _+_, _-_, _*_, _%_, _≤_, _<_}
 use native.Mathlib.Nat.{add-zero, add-suc, sub-zero}
 use native.Mathlib.Numerals.{add-one}
 use native.Mathlib.Omega.{arith}
@@ -22,6 +22,10 @@ use Rattle.aps.specs.declared.fields.Stop.{Stop}
 use Rattle.aps.specs.declared.fields.Stop.the-variants as Stop
 use Rattle.aps.proofs.Gives.{Gives, given, gives-then, gives-▷, gives-when}
 use Rattle.aps.proofs.SignedLaws.{add-abs, not-ltZ}
+
+-- a position of the 64 is one of them
+pub position : (id i : ℕ) → i < 64 → skipped id i ≡ skipped id (i % 64)
+position id i h = ap (skipped id) (omega arith)
 
 -- ---- se(v) in a range
 

@@ -8,4 +8,3 @@ pub mod Rbsp
 pub mod Unit
 pub mod Reading
 pub mod Stops
-pub mod Writing

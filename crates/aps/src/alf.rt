@@ -134,7 +134,7 @@ pub(crate) fn zero_alf() -> VvcAlfData
 }
 
 // Ceil( Log2( x ) ).
-pub(crate) fn ceil_log2(x: u32) -> u32
+pub fn ceil_log2(x: u32) -> u32
     ensures { λ r. ⌜ (r ≡ ceilLog2 x) × (r ≤ 32) ⌝ }
 {
     if x <= 1 {
@@ -265,7 +265,7 @@ fn read_clips(bytes: &[u8], from: Stop, n: usize, clip: &mut [u8]) -> Stop
 }
 
 // How many clips are sent.
-pub(crate) fn clips_sent(clip: bool, n: usize) -> usize
+pub fn clips_sent(clip: bool, n: usize) -> usize
     ensures { λ r. ⌜ (r ≡ cond clip n 0) × (r ≤ n) ⌝ }
 {
     if clip { n } else { 0 }

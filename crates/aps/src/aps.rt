@@ -297,7 +297,7 @@ pub fn parse_aps_rbsp(bytes: &[u8]) -> ApsReading
 }
 
 // A prefix or a suffix APS.
-pub(crate) fn is_aps(unit_type: u8) -> bool
+pub fn is_aps(unit_type: u8) -> bool
     ensures { λ r. ⌜ r ≡ isAps «unit_type» ⌝ }
 {
     if unit_type == NAL_TYPE_PREFIX_APS {

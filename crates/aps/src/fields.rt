@@ -16,7 +16,7 @@ ghost use Rattle.aps.specs.Elements.{signed};
 ghost use Rattle.aps.specs.Reading.{EndsBy, outcomeSigned};
 
 // Where a run of fields ended, or why it was refused.
-pub(crate) enum Stop {
+pub enum Stop {
     End(usize),
     Refused(Refusal),
 }

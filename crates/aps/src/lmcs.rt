@@ -59,7 +59,7 @@ pub(crate) fn zero_lmcs() -> VvcLmcsData
 }
 
 // Min 0..15; delta max 0..15 with 15 - delta max at least min; precision - 1 0..14.
-pub(crate) fn in_range(min: u32, max: u32, prec: u32) -> bool
+pub fn in_range(min: u32, max: u32, prec: u32) -> bool
     ensures { λ r. ⌜ r ≡ inRange (min, (max, prec)) ⌝ }
 {
     if 15 < min {

@@ -9,7 +9,7 @@ use bitstream::bit_reader::FieldS;
 use bitstream::bit_reader::FieldU;
 ghost use mathlib.Core.Path.{_≡_};
 ghost use mathlib.Core.Bool.{cond, not, _&&_, _||_};
-ghost use Prim.Native.Nat.{_+_, _-_, _*_, _≤_, _<_};
+ghost use Prim.Native.Nat.{_+_, _-_, _*_, _%_, _≤_, _<_};
 ghost use lib.Dec.{ltb, eqb};
 ghost use lib.IntN.{pos, negsuc, natAbs};
 ghost use lib.ListN.{length, set};
@@ -67,7 +67,7 @@ pub(crate) fn zero_scaling() -> VvcScalingListData
 }
 
 // matrixSize * matrixSize.
-pub(crate) fn matrix_entries(id: usize) -> usize
+pub fn matrix_entries(id: usize) -> usize
     ensures { λ r. ⌜ r ≡ entries id ⌝ }
 {
     if id < 2 {
@@ -80,21 +80,20 @@ pub(crate) fn matrix_entries(id: usize) -> usize
 }
 
 // maxIdDelta (101).
-pub(crate) fn max_id_delta(id: usize) -> u32
-    requires { ⌜ id < 28 ⌝ }
+pub fn max_id_delta(id: usize) -> usize
     ensures { λ r. ⌜ r ≡ maxIdDelta id ⌝ }
 {
     if id < 2 {
-        return id as u32;
+        return id;
     }
     if id < 8 {
-        return (id - 2) as u32;
+        return id - 2;
     }
-    (id - 8) as u32
+    id - 8
 }
 
 // The syntax codes id under this chroma flag.
-pub(crate) fn id_coded(id: usize, chroma: bool) -> bool
+pub fn id_coded(id: usize, chroma: bool) -> bool
     ensures { λ r. ⌜ r ≡ idCoded chroma id ⌝ }
 {
     if chroma {
@@ -106,13 +105,12 @@ pub(crate) fn id_coded(id: usize, chroma: bool) -> bool
     id == 27
 }
 
-// A step of id that is not read.
-pub(crate) fn step_skipped(id: usize, i: usize) -> bool
-    requires { ⌜ i < 64 ⌝ }
-    ensures { λ r. ⌜ r ≡ skipped id i ⌝ }
+// A step of id that is not read, at a position of the 64.
+pub fn step_skipped(id: usize, i: usize) -> bool
+    ensures { λ r. ⌜ r ≡ skipped id (i % 64) ⌝ }
 {
     if 25 < id {
-        return (CORNER >> i as u64) % 2 == 1;
+        return (CORNER >> (i % 64) as u64) % 2 == 1;
     }
     false
 }
@@ -208,7 +206,7 @@ fn read_coefficients(bytes: &[u8], p: usize, id: usize, list: &mut [i32; 1792]) 
 }
 
 // scaling_list_pred_id_delta is sent for an id that is copied or predicted, but for the first of each size.
-pub(crate) fn delta_sent(id: usize, used: bool) -> bool
+pub fn delta_sent(id: usize, used: bool) -> bool
     ensures { λ r. ⌜ r ≡ (used && not (eqb id 0 || eqb id 2 || eqb id 8)) ⌝ }
 {
     if !used {
@@ -234,7 +232,7 @@ fn read_delta(bytes: &[u8], p: usize, id: usize, used: bool) -> FieldU
     let field = read_ue(bytes, p);
     match field {
         FieldU::Value(v, next) => {
-            if max_id_delta(id) < v {
+            if max_id_delta(id) < v as usize {
                 return FieldU::Refused(Refusal::InvalidData);
             }
             FieldU::Value(v, next)

@@ -46,6 +46,9 @@ module _ (c : tie.After-known-told) where
   told : readUe (now (start read .args .bytes)) (start read .args .p) ≡ value (c .before .field .given .0 .0) (c .before .field .given .0 .1 .0 .«bit_pos»)
   told = sym (read .read-ue .ensures .0) ∙ ap outcomeU (c .before .field .given .1)
 
+cast-if2 : tie.Need-cast-if2
+cast-if2 c = search needs
+
 returns-2 : tie.Need-returns-2
 returns-2 c =
     let k = c .before .before in
@@ -76,6 +79,7 @@ read-delta-spec =
     read-ue-requires
     enum-known-field
     max-id-delta-requires
+    cast-if2
     returns-2
     enum-known-field-2
     returns-3

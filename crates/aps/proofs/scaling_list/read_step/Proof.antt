@@ -12,7 +12,7 @@ use Rattle.bitstream.specs.Reading.{outcomeS}
 use Rattle.aps.proofs.Bounds.{ends-at}
 use Rattle.aps.proofs.SignedLaws.{abs-fits, add-abs}
 use Rattle.aps.proofs.Gives.{given}
-use Rattle.aps.proofs.ScalingSteps.{se8, Small, se8-small, step-skip, step-refused, step-value}
+use Rattle.aps.proofs.ScalingSteps.{position, se8, Small, se8-small, step-skip, step-refused, step-value}
 use Rattle.aps.proofs.scaling_list.read_step.Statement.{statement}
 use Rattle.aps.proofs.scaling_list.read_step.Tie as tie
 
@@ -22,7 +22,7 @@ step-skipped-requires c κs = search needs
 returns : tie.Need-returns
 returns c =
     let k = c .before .before .before in
-    (rw (toZ-ofZ (k .fits .prev)) (sym (step-skip _ _ _ _ _ (sym (c .before .step-skipped .ensures) ∙ c .if1 .taken))), omega arith)
+    (rw (toZ-ofZ (k .fits .prev)) (sym (step-skip _ _ _ _ _ (position (k .args .id) (k .args .i) (k .pre .2) ∙ sym (c .before .step-skipped .ensures) ∙ c .if1 .taken))), omega arith)
 
 read-se8-requires : tie.Need-read-se8-requires
 read-se8-requires c κs = search needs
@@ -55,14 +55,15 @@ enum-known-field-2 c = search needs
 returns-2 : tie.Need-returns-2
 returns-2 c = (
   rw (value-is c, toZ-ofZ (start c .fits .prev), toZ-ofZ (sum-fits c))
-      (sym (step-value _ _ _ _ _ (sym (read c .before .before .step-skipped .ensures) ∙ read c .before .if1 .left) (told c))),
+      (sym (step-value _ _ _ _ _ (position (start c .args .id) (start c .args .i) (start c .pre .2) ∙ sym (read c .before .before .step-skipped .ensures) ∙ read c .before .if1 .left) (told c))),
   ends-at _ (ap outcomeS (c .before .field .given .1)) (read c .read-se8 .ensures .1),
 )
 
 returns-3 : tie.Need-returns-3
 returns-3 c =
-    let r = c .before .before .before in (
-      sym (step-refused _ _ _ _ _ (sym (r .before .before .step-skipped .ensures) ∙ r .before .if1 .left)
+    let r = c .before .before .before in
+    let b = r .before .before .before .before in (
+      sym (step-refused _ _ _ _ _ (position (b .args .id) (b .args .i) (b .pre .2) ∙ sym (r .before .before .step-skipped .ensures) ∙ r .before .if1 .left)
           (sym (r .read-se8 .ensures .0) ∙ ap outcomeS (c .before .field2 .given .1))),
       tt,
     )

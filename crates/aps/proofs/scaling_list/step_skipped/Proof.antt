@@ -4,6 +4,7 @@ use borrow.Author.Tests.{lt-ltb, le-ltb}
 use mathlib.Core.Path.{_≡_, refl, sym}
 use mathlib.Core.Bool.{Bool, true, false, cond, not}
 use Prim.Native.Nat.{ℕ, _/_, _%_, _^_, _<_}
+use native.Mathlib.Omega.{arith}
 use lib.Dec.{eqb}
 use Rattle.aps.specs.ScalingSyntax.{diagNext, diagScan, skipped}
 use Rattle.aps.proofs.Below.{below-rule}
@@ -31,7 +32,7 @@ shr-result c = search needs
 
 returns : tie.Need-returns
 unfolding skipped
-returns c = rw (lt-ltb _ _ (c .if1 .taken)) (rule (c .before .args .i) (c .before .pre))
+returns c = rw (lt-ltb _ _ (c .if1 .taken)) (rule (c .before .args .i % 64) (omega arith))
 
 returns-2 : tie.Need-returns-2
 unfolding skipped

@@ -1,0 +1,9 @@
+pub mod WriteSteps
+pub mod PutLaws
+pub mod AlfWrites
+pub mod LmcsWrites
+pub mod ScalingWrites
+pub mod RbspWrites
+pub mod RoundTrips
+pub mod InferredLaws
+pub mod Marked

@@ -1,0 +1,311 @@
+-- What is written of scaling_list_data( ): its steps, the DC, the delta, one id, and the loops over them.
+use mathlib.Core.Path.{_≡_, refl, sym, ap, _∙_}
+use mathlib.Core.Bool.{Bool, true, false, cond, not}
+use mathlib.Core.List.{List, [], _∷_}
+use Prim.Native.Nat.{ℕ, zero, suc, _+_, _-_, _*_, _≤_, _<_}
+use native.Mathlib.Nat.{sub-zero}
+use native.Mathlib.Numerals.{add-one}
+use native.Mathlib.Omega.{arith}
+use borrow.Author.Tests.{ltb-true, ltb-false, eq-eqb, ne-eqb}
+use lib.Dec.{ltb, eqb, lit<}
+use lib.Count.{leadingZeros}
+use lib.IntN.{ℤ, pos, negsuc, natAbs, negℤ, _+ℤ_, _-ℤ_}
+use lib.Signed.{ltZ, natAbs-le}
+use lib.ListN.{length, getD, take, drop, length-drop, drop-of-length-le}
+use lib.Seq.{drop-cons, length-take-le, getD-take, getD-drop}
+use mir.Syntax.{w32, w64}
+use mir.Val.{toZ, ofZ, SFits}
+use mir.Facts.{toZ-ofZ}
+use Rattle.bitstream.specs.Outcome.{value, _then_}
+use Rattle.bitstream.specs.Fields.{ueZeros}
+use Rattle.bitstream.proofs.Signed.{wide-is}
+use Rattle.aps.specs.Codec.{Codec, _▷_, Inferred, when}
+use Rattle.aps.specs.Elements.{flag, noFlag, noPair}
+use Rattle.aps.specs.ScalingSyntax.{skipped, entries, maxIdDelta, idCoded, eqZ, just, cons, uncons, someLeft, step, stepAt, sums, Entry, deltaAt, coefficients, noEntries, entrySyntax, noEntry, idAt, scalingSyntax, looked, tabulate, look}
+use Rattle.aps.specs.Reading.{outcomeStop}
+use Rattle.aps.specs.Stops.{after, StopsBy, Spans}
+use Rattle.aps_writer.specs.Writing.{writes, Wrote, unsent}
+use Rattle.aps.specs.declared.fields.Stop.{Stop}
+use Rattle.aps.specs.declared.fields.Stop.the-variants as Stop
+use Rattle.aps.specs.declared.scaling_list.VvcScalingListData.{VvcScalingListData}
+use Rattle.aps.proofs.CodecLaws.{never-true}
+use Rattle.aps.proofs.ElementLaws.{zeros-mono}
+use Rattle.aps.proofs.SignedLaws.{mag-abs, add-abs}
+use Rattle.aps.proofs.ScalingLaws.{eqZ-only, just-is, noEntry-is}
+use Rattle.aps.proofs.StopLaws.{after-same, stops-more}
+use Rattle.aps.proofs.ScalingSteps.{se8, entries-le}
+use Rattle.aps_writer.proofs.WriteSteps.{writes-via, writes-▷, writes-nil, after-then, spans-then, spans-more, wrote-more, wrote-when, wrote-none, wrote-via, wrote-bad, wrote-▷, Writing, writing-start, writing-more, writing-done}
+
+-- ---- i32 values
+
+-- `v == w`
+pub same-i32 : (v w : ℤ) → SFits w32 v → SFits w32 w → eqb (ofZ w32 v) (ofZ w32 w) ≡ eqZ v w
+same-i32 v w f g = go (eqZ v w) refl
+  where
+    go : (b : Bool) → eqZ v w ≡ b → eqb (ofZ w32 v) (ofZ w32 w) ≡ b
+    go true e = eq-eqb (ofZ w32 v) (ofZ w32 w) (ap (ofZ w32) (eqZ-only v w e))
+    go false e =
+        ne-eqb (ofZ w32 v) (ofZ w32 w) λ h.
+        let same : v ≡ w = sym (toZ-ofZ f) ∙ ap (toZ w32) h ∙ toZ-ofZ g in
+        never-true (sym e ∙ rw same (just-is w .itself))
+
+neg-abs : (z : ℤ) → natAbs (negℤ z) ≡ natAbs z
+neg-abs (pos zero) = refl
+neg-abs (pos (suc n)) = refl
+neg-abs (negsuc n) = refl
+
+-- `v as i64 - w as i64`
+module _ (v w : ℤ) (f : SFits w32 v) (g : SFits w32 w) where
+  pub difference-fits : SFits w64 (v -ℤ w)
+  difference-fits =
+      record {
+        sfits = omega (arith, mag-abs (v -ℤ w), add-abs v (negℤ w), neg-abs w, natAbs-le v {H = 2147483648} (f .sfits), natAbs-le w {H = 2147483648} (g .sfits));
+      }
+
+  pub difference-is : toZ w64 (ofZ w64 (toZ w64 (ofZ w64 (toZ w32 (ofZ w32 v))) -ℤ toZ w64 (ofZ w64 (toZ w32 (ofZ w32 w))))) ≡ v -ℤ w
+  difference-is = rw (wide-is v f, wide-is w g) (toZ-ofZ difference-fits)
+
+-- `step as i32`
+pub small-fits : (z : ℤ) → ltZ z (negsuc 127) ≡ false → ltZ (pos 127) z ≡ false → SFits w32 z
+small-fits (pos n) a b = record { sfits = omega (arith, ltb-false 127 n b) }
+small-fits (negsuc n) a b = record { sfits = omega (arith, ltb-false 127 n a) }
+
+-- ---- a value that is sent where a flag is set
+
+module _ {A : Type 0} (d : Inferred A) (c : Codec A) (a : A) {b : Bool} (m : ℕ) {from to : Stop} where
+  pub when-sent : {out out′ : List ℕ} → b ≡ true → Wrote c a m from to out out′ → Wrote (when b d c) a m from to out out′
+  when-sent e w = rw e (wrote-when c a m d w)
+
+  pub when-unsent : {out : List ℕ} → b ≡ false → to ≡ unsent from (d .is a) → Wrote (when b d c) a m from to out out
+  when-unsent {out} e t = rw e (wrote-more (when false d c) a 0 m (omega arith) (wrote-none d c a from to out t))
+
+-- ---- one step
+
+not-is : {b : Bool} → b ≡ false → not b ≡ true
+not-is e = rw e
+
+is-not : {b : Bool} → b ≡ true → not b ≡ false
+is-not e = rw e
+
+module _ (id i : ℕ) (prev v : ℤ) {from to : Stop} where
+  -- a skipped one repeats the sum
+  pub step-repeated : {out : List ℕ} → skipped id i ≡ true → to ≡ unsent from (eqZ v prev) → Wrote (stepAt id i prev) v 17 from to out out
+  step-repeated k e = when-unsent (just prev) (step prev) v 17 (is-not k) e
+
+  pub step-sent : {out out′ : List ℕ} → skipped id i ≡ false → Wrote se8 (v -ℤ prev) 17 from to out out′ → Wrote (stepAt id i prev) v 17 from to out out′
+  unfolding step
+  step-sent k w = when-sent (just prev) (step prev) v 17 (not-is k) (wrote-via (λ d. d +ℤ prev) (λ v. v -ℤ prev) (λ v. true) se8 v 17 refl w)
+
+  pub step-bad : {out : List ℕ} → skipped id i ≡ false → se8 .ok (v -ℤ prev) ≡ false → to ≡ unsent from false → Wrote (stepAt id i prev) v 17 from to out out
+  step-bad {out} k o e = step-sent k (wrote-bad se8 (v -ℤ prev) 17 from to out o e)
+
+-- ---- the delta
+
+maxIdDelta-few : (id : ℕ) → id < 28 → maxIdDelta id ≤ 19
+unfolding maxIdDelta
+maxIdDelta-few id h = go (ltb id 2) (ltb id 8) refl refl
+  where
+    go : (a b : Bool) → ltb id 2 ≡ a → ltb id 8 ≡ b → cond a id (cond b (id - 2) (id - 8)) ≤ 19
+    go true b e f = omega (arith, ltb-true id 2 e)
+    go false true e f = omega (arith, ltb-true id 8 f)
+    go false false e f = omega arith
+
+pub maxIdDelta-word : (id : ℕ) → id < 28 → maxIdDelta id < 4294967295
+maxIdDelta-word id h = omega (arith, maxIdDelta-few id h)
+
+pub delta-bits : (id : ℕ) → id < 28 → 2 * ueZeros (maxIdDelta id) + 1 ≤ 9
+unfolding ueZeros leadingZeros
+delta-bits id h = let z : ueZeros (maxIdDelta id) ≤ 4 = zeros-mono (maxIdDelta id) 19 (maxIdDelta-few id h) (lit< tt) in omega arith
+
+-- ---- the sums of a list
+
+module _ (id i : ℕ) (prev : ℤ) (out : List ℕ) (p : ℕ) where
+  writes-none-left : writes (sums id i 0 prev) [] out p ≡ value out p
+  unfolding sums
+  writes-none-left = writes-nil (λ j. step prev) 0 out p
+
+  writes-sums : (n : ℕ) (v : ℤ) (vs : List ℤ)
+      → writes (sums id i (suc n) prev) (v ∷ vs) out p ≡ (writes (stepAt id i prev) v out p then λ o q. writes (sums id (suc i) n v) vs o q)
+  unfolding sums
+  writes-sums n v vs =
+      writes-via cons uncons someLeft (stepAt id i prev ▷ λ v. sums id (suc i) n v) (v ∷ vs) out p
+      ∙ writes-▷ (stepAt id i prev) (λ v. sums id (suc i) n v) v vs out p
+
+-- The loop over the sums vs: the first i are written, the last of them is prev, and what is left to write makes it whole.
+pub record Stepped (id n : ℕ) (dc : ℤ) (vs : List ℤ) (from : Stop) (out : List ℕ) (i : ℕ) (prev : ℤ) (at : Stop) (now : List ℕ) : Type 0 where
+  pub left : after at (writes (sums id i (n - i) prev) (drop i vs) now) ≡ after from (writes (sums id 0 n dc) vs out)
+  pub near : Spans from at (17 * i)
+  pub count : i ≤ n
+
+module _ (id n : ℕ) (dc : ℤ) (vs : List ℤ) (from : Stop) (out : List ℕ) where
+  pub stepped-start : Stepped id n dc vs from out 0 dc from out
+  stepped-start = record { left = rw (sub-zero n); near = λ m s. stops-more from m (m + 17 * 0) s (omega arith); count = omega arith }
+
+  module _ (i : ℕ) (prev : ℤ) (at : Stop) (now : List ℕ) (S : Stepped id n dc vs from out i prev at now) where
+    pub stepped-more : (v : ℤ) (at′ : Stop) (now′ : List ℕ) → i < n → drop i vs ≡ v ∷ drop (suc i) vs → Wrote (stepAt id i prev) v 17 at at′ now now′
+        → Stepped id n dc vs from out (i + 1) v at′ now′
+    stepped-more v at′ now′ h e w =
+        let m : n - i ≡ suc (n - suc i) = omega arith in
+        let f : after at′ (writes (sums id (suc i) (n - suc i) v) (drop (suc i) vs) now′) ≡ after from (writes (sums id 0 n dc) vs out)
+        = sym (after-then at at′ now′ (writes (stepAt id i prev) v now) (λ o q. writes (sums id (suc i) (n - suc i) v) (drop (suc i) vs) o q) (w .answer))
+        ∙ sym (after-same at _ _ (λ p. writes-sums id i prev now p (n - suc i) v (drop (suc i) vs)))
+        ∙ (rw (m, e) at (S .left)) in
+        record {
+          left = rw (add-one i) f;
+          near = spans-more from at′ (17 * i + 17) (17 * (i + 1)) (omega arith) (spans-then from at at′ (17 * i) 17 (S .near) (w .within));
+          count = omega arith;
+        }
+
+    pub stepped-done : n ≤ i → n ≤ 64 → length vs ≡ n → Wrote (sums id 0 n dc) vs 1088 from at out now
+    stepped-done h k e =
+        let m : n - i ≡ 0 = omega arith in
+        let d : drop i vs ≡ [] = drop-of-length-le vs {i = i} (omega arith) in
+        record {
+          answer = stays at ∙ sym (after-same at _ _ (λ p. writes-none-left id i prev now p)) ∙ (rw (m, d) at (S .left));
+          within = spans-more from at (17 * i) 1088 (omega (arith, S .count)) (S .near);
+        }
+      where
+        stays : (at : Stop) → outcomeStop at now ≡ after at (λ p. value now p)
+        stays (Stop.End q) = refl
+        stays (Stop.Refused n) = refl
+
+-- the list of an id in the flat array
+abbrev pub row : ℕ → List ℤ → List ℤ
+row id list = take (entries id) (take 64 (drop (id * 64) list))
+
+module _ (id : ℕ) (list : List ℤ) (known : id < 28) (size : length list ≡ 1792) where
+  whole-row : length (take 64 (drop (id * 64) list)) ≡ 64
+  whole-row = length-take-le 64 (drop (id * 64) list) (omega (arith, length-drop (id * 64) list))
+
+  pub length-row : length (row id list) ≡ entries id
+  length-row = length-take-le (entries id) (take 64 (drop (id * 64) list)) (omega (arith, entries-le id, whole-row))
+
+  pub row-cons : (i : ℕ) → i < entries id → drop i (row id list) ≡ getD list (id * 64 + i) (pos 0) ∷ drop (suc i) (row id list)
+  row-cons i h =
+      let e : getD (row id list) i (pos 0) ≡ getD list (id * 64 + i) (pos 0)
+      = getD-take (entries id) (take 64 (drop (id * 64) list)) i (pos 0) h ∙ getD-take 64 (drop (id * 64) list) i (pos 0) (omega (arith, entries-le id)) ∙ getD-drop (id * 64) list i (pos 0) in
+      rw (← e) (drop-cons (row id list) i (pos 0) (omega (arith, length-row)))
+
+-- ---- one id
+
+-- where nothing is sent and what is inferred is there
+still : (to : Stop) → to ≡ unsent to true
+still (Stop.End p) = refl
+still (Stop.Refused e) = refl
+
+pub unsent-stops : (from : Stop) (b : Bool) (m : ℕ) → StopsBy from m → StopsBy (unsent from b) m
+unsent-stops (Stop.End p) true m s = s
+unsent-stops (Stop.End p) false m s = tt
+unsent-stops (Stop.Refused e) b m s = tt
+
+module _ (id : ℕ) {copy : Bool} (pred : Bool) (delta : ℕ) (dc : ℤ) (whole : List ℤ) {from a b to : Stop} {out out₁ out₂ : List ℕ} (first : Wrote flag copy 1 from a out out₁) where
+  -- of a copy the delta alone is sent
+  pub entry-copied : copy ≡ true → b ≡ unsent a (not pred) → Wrote (deltaAt id true) delta 9 b to out₁ out₂
+      → Wrote (entrySyntax id) (looked true id copy pred delta dc whole) 1116 from to out out₂
+  unfolding entrySyntax looked idCoded
+  entry-copied e n w =
+      rw e
+      (wrote-more (entrySyntax id) (true, (pred, (delta, (pos 0, [])))) 10 1116 (omega arith)
+      (wrote-▷ flag _ true (pred, (delta, (pos 0, []))) 1 9 (rw e at first)
+      (wrote-▷ (when false noFlag flag) _ pred (delta, (pos 0, [])) 0 9 (wrote-none noFlag flag pred a b out₁ n)
+      (wrote-▷ (deltaAt id true) _ delta (pos 0, []) 9 0 w
+      (wrote-none (noPair (just (pos 0)) noEntries) (coefficients id) (pos 0, []) to to out₂ (still to))))))
+
+  pub entry-listed : {c : Stop} {out₃ out₄ : List ℕ} → copy ≡ false → Wrote flag pred 1 a b out₁ out₂ → Wrote (deltaAt id pred) delta 9 b c out₂ out₃
+      → Wrote (coefficients id) (cond (ltb 13 id) dc (pos 0), take (entries id) whole) 1105 c to out₃ out₄
+      → Wrote (entrySyntax id) (looked true id copy pred delta dc whole) 1116 from to out out₄
+  unfolding entrySyntax looked idCoded
+  entry-listed e v w x =
+      let list : ℤ × List ℤ = (cond (ltb 13 id) dc (pos 0), take (entries id) whole) in
+      rw e
+      (wrote-▷ flag _ false (pred, (delta, list)) 1 1115 (rw e at first)
+      (wrote-▷ (when true noFlag flag) _ pred (delta, list) 1 1114 (wrote-when flag pred 1 noFlag v)
+      (wrote-▷ (deltaAt id pred) _ delta list 9 1105 w
+      (wrote-when (coefficients id) list 1105 (noPair (just (pos 0)) noEntries) x))))
+
+all-coded : (id : ℕ) → idCoded true id ≡ true
+unfolding idCoded
+all-coded id = refl
+
+module _ (chroma : Bool) (id : ℕ) (copy pred : Bool) (delta : ℕ) (dc : ℤ) (whole : List ℤ) where
+  looked-coded : idCoded chroma id ≡ true → looked true id copy pred delta dc whole ≡ looked chroma id copy pred delta dc whole
+  unfolding looked
+  looked-coded e = rw (e, all-coded id)
+
+  pub id-sent : {from to : Stop} {out out′ : List ℕ} → idCoded chroma id ≡ true → Wrote (entrySyntax id) (looked true id copy pred delta dc whole) 1116 from to out out′
+      → Wrote (idAt chroma id) (looked chroma id copy pred delta dc whole) 1116 from to out out′
+  id-sent e w = when-sent noEntry (entrySyntax id) (looked chroma id copy pred delta dc whole) 1116 e (rw (looked-coded e) at w)
+
+-- of an uncoded id nothing is sent
+pub id-unsent : (chroma : Bool) (id : ℕ) (copy pred : Bool) (delta : ℕ) (dc : ℤ) (whole : List ℤ) {from : Stop} {out : List ℕ} → idCoded chroma id ≡ false
+    → Wrote (idAt chroma id) (looked chroma id copy pred delta dc whole) 1116 from from out out
+unfolding looked
+id-unsent chroma id copy pred delta dc whole {from} e = rw e (when-unsent noEntry (entrySyntax id) (noEntry .default) 1116 refl (still from ∙ ap (unsent from) (sym (noEntry-is .itself))))
+
+-- ---- the ids
+
+module _ {A : Type 0} (f : ℕ → A) where
+  tabulate-cons : (i n j m : ℕ) → i + j ≡ m → j < n → drop j (tabulate i n f) ≡ f m ∷ drop (suc j) (tabulate i n f)
+  tabulate-cons i zero j m e h = absurd (omega arith)
+  tabulate-cons i (suc n) zero m e h = let k : i ≡ m = omega arith in rw k
+  tabulate-cons i (suc n) (suc j) m e h = tabulate-cons (suc i) n j m (omega arith) (omega arith)
+
+  tabulate-end : (i n : ℕ) → drop n (tabulate i n f) ≡ []
+  tabulate-end i zero = refl
+  tabulate-end i (suc n) = tabulate-end (suc i) n
+
+getD-any : {A : Type 0} (l : List A) (i : ℕ) (a b : A) → i < length l → getD l i a ≡ getD l i b
+getD-any [] i a b h = absurd (omega arith)
+getD-any (x ∷ l) zero a b h = refl
+getD-any (x ∷ l) (suc i) a b h = getD-any l i a b (omega arith)
+
+-- what is looked at of an id
+abbrev pub lookedAt : Bool → VvcScalingListData → ℕ → Entry
+lookedAt chroma d id =
+    looked chroma id (getD (d .«copy_mode_flag») id true) (getD (d .«pred_mode_flag») id false) (getD (d .«pred_id_delta») id 0)
+    (getD (d .«dc_coef») (id - 14) (pos 0)) (take 64 (drop (id * 64) (d .«scaling_list»)))
+
+-- The loop over the ids: those before id are written.
+pub record Listed (chroma : Bool) (d : VvcScalingListData) (from : Stop) (out : List ℕ) (id : ℕ) (at : Stop) (now : List ℕ) : Type 0 where
+  pub left : Writing (idAt chroma) 28 (look chroma d) from out id at now
+  pub near : Spans from at (1116 * id)
+  pub count : id ≤ 28
+
+module _ (chroma : Bool) (d : VvcScalingListData) (from : Stop) (out : List ℕ) where
+  pub listed-start : Listed chroma d from out 0 from out
+  listed-start =
+      record {
+        left = writing-start (idAt chroma) 28 (look chroma d) from out;
+        near = λ m s. stops-more from m (m + 1116 * 0) s (omega arith);
+        count = omega arith;
+      }
+
+  look-cons : (id : ℕ) → id < 28 → drop id (look chroma d) ≡ lookedAt chroma d id ∷ drop (suc id) (look chroma d)
+  unfolding look
+  look-cons id h = tabulate-cons (lookedAt chroma d) 0 28 id id (omega arith) h
+
+  look-end : drop 28 (look chroma d) ≡ []
+  unfolding look
+  look-end = tabulate-end (lookedAt chroma d) 0 28
+
+  module _ (id : ℕ) (at : Stop) (now : List ℕ) (L : Listed chroma d from out id at now) where
+    pub listed-more : (at′ : Stop) (now′ : List ℕ) → id < 28 → length (d .«copy_mode_flag») ≡ 28
+        → Wrote (idAt chroma id) (looked chroma id (getD (d .«copy_mode_flag») id false) (getD (d .«pred_mode_flag») id false) (getD (d .«pred_id_delta») id 0)
+        (getD (d .«dc_coef») (id - 14) (pos 0)) (take 64 (drop (id * 64) (d .«scaling_list»)))) 1116 at at′ now now′
+        → Listed chroma d from out (id + 1) at′ now′
+    listed-more at′ now′ h n v =
+        let w : Wrote (idAt chroma id) (lookedAt chroma d id) 1116 at at′ now now′ = rw (getD-any (d .«copy_mode_flag») id true false (omega arith)) v in
+        record {
+          left = rw (add-one id) (writing-more (idAt chroma) 28 (look chroma d) from out id at at′ now now′ (lookedAt chroma d id) 1116 h (look-cons id h) (L .left) w);
+          near = spans-more from at′ (1116 * id + 1116) (1116 * (id + 1)) (omega arith) (spans-then from at at′ (1116 * id) 1116 (L .near) (w .within));
+          count = omega arith;
+        }
+
+    pub listed-done : 28 ≤ id → Wrote (scalingSyntax chroma) (look chroma d) 31248 from at out now
+    unfolding scalingSyntax
+    listed-done h =
+        let e : id ≡ 28 = omega (arith, L .count) in
+        record {
+          answer = writing-done (idAt chroma) 28 (look chroma d) from out at now look-end (rw e at (L .left));
+          within = spans-more from at (1116 * id) 31248 (omega (arith, L .count)) (L .near);
+        }
