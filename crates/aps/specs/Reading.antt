@@ -10,8 +10,8 @@ use Rattle.aps.specs.declared.fields.Stop.{Stop}
 use Rattle.aps.specs.declared.fields.Stop.the-variants as Stop
 use Rattle.aps.specs.declared.fields.SignedField.{SignedField}
 use Rattle.aps.specs.declared.fields.SignedField.the-variants as Signed
-use Rattle.aps.specs.declared.scaling_list.CoefficientsRead.{CoefficientsRead}
-use Rattle.aps.specs.declared.scaling_list.IdRead.{IdRead}
+use Rattle.aps.specs.declared.scaling_list_data.CoefficientsRead.{CoefficientsRead}
+use Rattle.aps.specs.declared.scaling_list_data.IdRead.{IdRead}
 use Rattle.aps.specs.declared.aps.VvcAps.{VvcAps}
 use Rattle.aps.specs.declared.aps.ApsOutcome.{ApsOutcome}
 use Rattle.aps.specs.declared.aps.ApsOutcome.the-variants as Aps

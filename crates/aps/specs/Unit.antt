@@ -8,8 +8,8 @@ use Rattle.bitstream.specs.Outcome.{Outcome, value, refused, number, _then_}
 use Rattle.bitstream.specs.Escapes.{unescape}
 use Rattle.aps.specs.Rbsp.{readRbsp}
 use Rattle.aps.specs.declared.aps.VvcAps.{VvcAps}
-use Rattle.aps.specs.declared.aps.UnitJudged.{UnitJudged}
-use Rattle.aps.specs.declared.aps.UnitJudged.the-variants as Judged
+use Rattle.aps.specs.declared.unit.UnitJudged.{UnitJudged}
+use Rattle.aps.specs.declared.unit.UnitJudged.the-variants as Judged
 use Rattle.aps.specs.declared.nal_header.VvcNalHeader.{VvcNalHeader}
 use Rattle.aps.specs.declared.nal_header.HeaderRead.{HeaderRead}
 use Rattle.aps.specs.declared.nal_header.HeaderRead.the-variants.{Header, Refused}

@@ -1,25 +1,10 @@
 // scaling_list_data(), H.266 7.3.2.20.
-use crate::fields::Stop;
-use crate::fields::read_flag;
-use crate::fields::read_se;
-use crate::fields::read_ue;
-use bitstream::Refusal;
-use bitstream::bit_reader::BitReader;
-use bitstream::bit_reader::FieldS;
-use bitstream::bit_reader::FieldU;
 ghost use mathlib.Core.Path.{_≡_};
-ghost use mathlib.Core.Bool.{cond, not, _&&_, _||_};
-ghost use Prim.Native.Nat.{_+_, _-_, _*_, _%_, _≤_, _<_};
-ghost use lib.Dec.{ltb, eqb};
-ghost use lib.IntN.{pos, negsuc, natAbs};
-ghost use lib.ListN.{length, set};
-ghost use lib.Seq.{sets};
-ghost use Rattle.bitstream.specs.Outcome.{mapOutcome};
-ghost use Rattle.bitstream.specs.Reading.{outcomeU, outcomeS};
-ghost use Rattle.aps.specs.Elements.{seIn};
-ghost use Rattle.aps.specs.ScalingSyntax.{skipped, entries, maxIdDelta, idCoded, stepAt, sums, dcAt, deltaAt, coefficients, entrySyntax, idAt, scalingSyntax, keep, storedList, stored};
+ghost use mathlib.Core.Bool.{not, _&&_, _||_};
+ghost use Prim.Native.Nat.{_-_, _*_, _%_, _<_};
+ghost use lib.Dec.{eqb};
+ghost use Rattle.aps.specs.ScalingSyntax.{skipped, entries, maxIdDelta, idCoded};
 ghost use Rattle.aps.specs.ApsSyntax.{zeroScaling};
-ghost use Rattle.aps.specs.Reading.{EndsBy, outcomeStop, outcomeCoefficients, outcomeId};
 
 // List id is at 64 * id of the flat array, in the order of the diagonal scan.
 pub struct VvcScalingListData {
@@ -28,27 +13,6 @@ pub struct VvcScalingListData {
     pub pred_id_delta: [u32; 28],
     pub dc_coef: [i32; 14],
     pub scaling_list: [i32; 1792],
-}
-
-// What reading scaling_list_data() gives.
-pub(crate) struct ScalingRead {
-    pub stop: Stop,
-    pub scaling: VvcScalingListData,
-}
-
-// The DC of one id; its list is stored in the flat array.
-struct CoefficientsRead {
-    stop: Stop,
-    dc: i32,
-}
-
-// One id; its list is stored in the flat array.
-struct IdRead {
-    stop: Stop,
-    copy: bool,
-    pred: bool,
-    delta: u32,
-    dc: i32,
 }
 
 // Bit i: position i of the diagonal scan (6.5.2) is in column 4 or more and row 4 or more.
@@ -115,96 +79,6 @@ pub fn step_skipped(id: usize, i: usize) -> bool
     false
 }
 
-// se(v) in -128..127.
-fn read_se8(bytes: &[u8], p: usize) -> FieldS
-    requires { ⌜ (length (now bytes) ≤ 65536) × (p ≤ 900000) ⌝ }
-    ensures { λ r. ⌜ (outcomeS r ≡ (seIn (negsuc 127) (pos 127)) .read (now (bytes .entry)) p) × EndsBy (outcomeS r) (p + 63) ⌝ }
-{
-    let field = read_se(bytes, p);
-    match field {
-        FieldS::Value(v, next) => {
-            if v < -128 {
-                return FieldS::Refused(Refusal::InvalidData);
-            }
-            if 127 < v {
-                return FieldS::Refused(Refusal::InvalidData);
-            }
-            FieldS::Value(v, next)
-        }
-        FieldS::Refused(why) => FieldS::Refused(why),
-    }
-}
-
-// The sum at position i, after prev.
-fn read_step(bytes: &[u8], p: usize, id: usize, i: usize, prev: i32) -> FieldS
-    requires { ⌜ (length (now bytes) ≤ 65536) × (p ≤ 900000) × (i < 64) × (natAbs prev ≤ 9000) ⌝ }
-    ensures { λ r. ⌜ (outcomeS r ≡ (stepAt id i prev) .read (now (bytes .entry)) p) × EndsBy (outcomeS r) (p + 63) ⌝ }
-{
-    if step_skipped(id, i) {
-        return FieldS::Value(prev, BitReader { bit_pos: p });
-    }
-    let field = read_se8(bytes, p);
-    match field {
-        FieldS::Value(v, next) => FieldS::Value(v + prev, next),
-        FieldS::Refused(why) => FieldS::Refused(why),
-    }
-}
-
-// The sums of id after its DC, stored in its list.
-fn read_steps(bytes: &[u8], p: usize, id: usize, dc: i32, list: &mut [i32; 1792]) -> Stop
-    requires { ⌜ (length (now bytes) ≤ 65536) × (p ≤ 800000) × (id < 28) × (natAbs dc ≤ 128) ⌝ }
-    ensures { λ r. ⌜ (outcomeStop r (now (list .exit)) ≡ mapOutcome (λ l. sets (now (list .entry)) (64 * id) l) ((sums id 0 (entries id) dc) .read (now (bytes .entry)) p)) × EndsBy (outcomeStop r (now (list .exit))) (p + 4032) ⌝ }
-{
-    let n = matrix_entries(id);
-    let mut sum = dc;
-    let mut at = p;
-    let mut i: usize = 0;
-    while i < n {
-        let field = read_step(bytes, at, id, i, sum);
-        match field {
-            FieldS::Value(v, next) => {
-                sum = v;
-                list[64 * id + i] = v;
-                at = next.bit_pos;
-            }
-            FieldS::Refused(why) => {
-                return Stop::Refused(why);
-            }
-        }
-        i += 1;
-    }
-    Stop::End(at)
-}
-
-// scaling_list_dc_coef, above id 13.
-fn read_dc(bytes: &[u8], p: usize, id: usize) -> FieldS
-    requires { ⌜ (length (now bytes) ≤ 65536) × (p ≤ 900000) ⌝ }
-    ensures { λ r. ⌜ (outcomeS r ≡ (dcAt id) .read (now (bytes .entry)) p) × EndsBy (outcomeS r) (p + 63) ⌝ }
-{
-    if 13 < id {
-        return read_se8(bytes, p);
-    }
-    FieldS::Value(0, BitReader { bit_pos: p })
-}
-
-// The DC and the sums of an id that is not copied.
-fn read_coefficients(bytes: &[u8], p: usize, id: usize, list: &mut [i32; 1792]) -> CoefficientsRead
-    requires { ⌜ (length (now bytes) ≤ 65536) × (p ≤ 700000) × (id < 28) ⌝ }
-    ensures { λ r. ⌜ (outcomeCoefficients r (now (list .exit)) ≡ mapOutcome (storedList (now (list .entry)) id) ((coefficients id) .read (now (bytes .entry)) p)) × EndsBy (outcomeCoefficients r (now (list .exit))) (p + 4095) ⌝ }
-{
-    let field = read_dc(bytes, p, id);
-    match field {
-        FieldS::Value(dc, next) => {
-            let stop = read_steps(bytes, next.bit_pos, id, dc, list);
-            CoefficientsRead { stop, dc }
-        }
-        FieldS::Refused(why) => CoefficientsRead {
-            stop: Stop::Refused(why),
-            dc: 0,
-        },
-    }
-}
-
 // scaling_list_pred_id_delta is sent for an id that is copied or predicted, but for the first of each size.
 pub fn delta_sent(id: usize, used: bool) -> bool
     ensures { λ r. ⌜ r ≡ (used && not (eqb id 0 || eqb id 2 || eqb id 8)) ⌝ }
@@ -219,143 +93,4 @@ pub fn delta_sent(id: usize, used: bool) -> bool
         return false;
     }
     id != 8
-}
-
-// scaling_list_pred_id_delta.
-fn read_delta(bytes: &[u8], p: usize, id: usize, used: bool) -> FieldU
-    requires { ⌜ (length (now bytes) ≤ 65536) × (p ≤ 900000) × (id < 28) ⌝ }
-    ensures { λ r. ⌜ (outcomeU r ≡ (deltaAt id used) .read (now (bytes .entry)) p) × EndsBy (outcomeU r) (p + 63) ⌝ }
-{
-    if !delta_sent(id, used) {
-        return FieldU::Value(0, BitReader { bit_pos: p });
-    }
-    let field = read_ue(bytes, p);
-    match field {
-        FieldU::Value(v, next) => {
-            if max_id_delta(id) < v as usize {
-                return FieldU::Refused(Refusal::InvalidData);
-            }
-            FieldU::Value(v, next)
-        }
-        FieldU::Refused(why) => FieldU::Refused(why),
-    }
-}
-
-// One coded id.
-fn read_entry(bytes: &[u8], p: usize, id: usize, list: &mut [i32; 1792]) -> IdRead
-    requires { ⌜ (length (now bytes) ≤ 65536) × (p ≤ 600000) × (id < 28) ⌝ }
-    ensures { λ r. ⌜ (outcomeId r (now (list .exit)) ≡ mapOutcome (stored (now (list .entry)) id) ((entrySyntax id) .read (now (bytes .entry)) p)) × EndsBy (outcomeId r (now (list .exit))) (p + 4160) ⌝ }
-{
-    if read_flag(bytes, p) {
-        let field = read_delta(bytes, p + 1, id, true);
-        return match field {
-            FieldU::Value(delta, next) => IdRead {
-                stop: Stop::End(next.bit_pos),
-                copy: true,
-                pred: false,
-                delta,
-                dc: 0,
-            },
-            FieldU::Refused(why) => IdRead {
-                stop: Stop::Refused(why),
-                copy: true,
-                pred: false,
-                delta: 0,
-                dc: 0,
-            },
-        };
-    }
-    let pred = read_flag(bytes, p + 1);
-    let field = read_delta(bytes, p + 2, id, pred);
-    match field {
-        FieldU::Value(delta, next) => {
-            let read = read_coefficients(bytes, next.bit_pos, id, list);
-            let stop = read.stop;
-            IdRead {
-                stop,
-                copy: false,
-                pred,
-                delta,
-                dc: read.dc,
-            }
-        }
-        FieldU::Refused(why) => IdRead {
-            stop: Stop::Refused(why),
-            copy: false,
-            pred,
-            delta: 0,
-            dc: 0,
-        },
-    }
-}
-
-// One id; an uncoded one is a copy.
-fn read_id(bytes: &[u8], p: usize, chroma: bool, id: usize, list: &mut [i32; 1792]) -> IdRead
-    requires { ⌜ (length (now bytes) ≤ 65536) × (p ≤ 600000) × (id < 28) ⌝ }
-    ensures { λ r. ⌜ (outcomeId r (now (list .exit)) ≡ mapOutcome (stored (now (list .entry)) id) ((idAt chroma id) .read (now (bytes .entry)) p)) × EndsBy (outcomeId r (now (list .exit))) (p + 4160) ⌝ }
-{
-    if id_coded(id, chroma) {
-        return read_entry(bytes, p, id, list);
-    }
-    IdRead {
-        stop: Stop::End(p),
-        copy: true,
-        pred: false,
-        delta: 0,
-        dc: 0,
-    }
-}
-
-// The DC of an id above 13.
-fn store_dc(dc: &mut [i32; 14], id: usize, value: i32)
-    requires { ⌜ id < 28 ⌝ }
-    ensures { λ r. ⌜ now (dc .exit) ≡ cond (ltb 13 id) (set (now (dc .entry)) (id - 14) value) (now (dc .entry)) ⌝ }
-{
-    if 13 < id {
-        dc[id - 14] = value;
-    }
-}
-
-// scaling_list_data().
-pub(crate) fn read_scaling(bytes: &[u8], p: usize, chroma: bool) -> ScalingRead
-    requires { ⌜ (length (now bytes) ≤ 65536) × (p ≤ 100) ⌝ }
-    ensures { λ r. ⌜ (outcomeStop (r .stop) (r .scaling) ≡ mapOutcome keep ((scalingSyntax chroma) .read (now (bytes .entry)) p)) × EndsBy (outcomeStop (r .stop) (r .scaling)) (p + 200000) ⌝ }
-{
-    let mut copy = [false; 28];
-    let mut pred = [false; 28];
-    let mut delta = [0u32; 28];
-    let mut dc = [0i32; 14];
-    let mut list = [0i32; 1792];
-    let mut at = p;
-    let mut id: usize = 0;
-    while id < 28 {
-        let read = read_id(bytes, at, chroma, id, &mut list);
-        let stop = read.stop;
-        match stop {
-            Stop::End(next) => {
-                at = next;
-            }
-            Stop::Refused(why) => {
-                return ScalingRead {
-                    stop: Stop::Refused(why),
-                    scaling: zero_scaling(),
-                };
-            }
-        }
-        copy[id] = read.copy;
-        pred[id] = read.pred;
-        delta[id] = read.delta;
-        store_dc(&mut dc, id, read.dc);
-        id += 1;
-    }
-    ScalingRead {
-        stop: Stop::End(at),
-        scaling: VvcScalingListData {
-            copy_mode_flag: copy,
-            pred_mode_flag: pred,
-            pred_id_delta: delta,
-            dc_coef: dc,
-            scaling_list: list,
-        },
-    }
 }

@@ -1,0 +1,76 @@
+-- `read_luma`: the flag and the count are read and judged before the filters.
+use borrow.Author.Needs.{needs}
+use mathlib.Core.Path.{sym, ap, _∙_}
+use mathlib.Core.Bool.{true}
+use Prim.Native.Nat.{_+_}
+use native.Mathlib.Omega.{arith}
+use denote.Ref.{now}
+use Rattle.bitstream.specs.Reading.{outcomeU}
+use Rattle.aps.specs.AlfSyntax.{luma, lumaSyntax, lumaFilters, toLuma, fromLuma, noLuma}
+use Rattle.aps.specs.Reading.{outcomeStop}
+use Rattle.aps.proofs.AlfSteps.{ueTo-most, head-value, head-refused}
+use Rattle.aps.proofs.StopLaws.{ends-more}
+use Rattle.aps.proofs.alf_luma.read_luma.Statement.{statement}
+use Rattle.aps.proofs.alf_luma.read_luma.Tie as tie
+
+read-flag-requires : tie.Need-read-flag-requires
+read-flag-requires c κs = search needs
+
+add-read-ue-to : tie.Need-add-read-ue-to
+add-read-ue-to c = search needs
+
+read-ue-to-requires : tie.Need-read-ue-to-requires
+read-ue-to-requires c κs = search needs
+
+enum-known-count : tie.Need-enum-known-count
+enum-known-count c = search needs
+
+read-luma-filters-requires : tie.Need-read-luma-filters-requires
+read-luma-filters-requires c κs =
+    let k = c .before .before .before in
+    let g = c .before .count .given in
+    let a = k .before .before .before .args in (
+      omega arith,
+      omega (arith, rw (g .1) at (k .read-ue-to .ensures .1)),
+      ueTo-most 24 (now (a .bytes)) (a .p + 1) (g .0 .0) (g .0 .1 .0 .«bit_pos») (sym (ap outcomeU (g .1)) ∙ k .read-ue-to .ensures .0),
+    )
+
+enum-known-count-2 : tie.Need-enum-known-count-2
+enum-known-count-2 c = search needs
+
+no-luma-requires : tie.Need-no-luma-requires
+no-luma-requires c κs = search needs
+
+returns : tie.Need-returns
+unfolding luma lumaSyntax
+returns c =
+    let d = c .read-luma-filters in
+    let g = c .before .before .count .given in
+    let k = c .before .before .before .before in
+    let a = k .before .before .before .args in
+    let count = sym (k .read-ue-to .ensures .0) ∙ ap outcomeU (g .1) in (
+      d .ensures .0 ∙ sym (head-value toLuma fromLuma (λ d. true) noLuma 24 lumaFilters (now (a .bytes)) (a .p) (k .before .read-flag .result) (g .0 .0) (g .0 .1 .0 .«bit_pos») (k .before .read-flag .ensures) count),
+      ends-more (outcomeStop (d .result .stop) (d .result .luma)) (g .0 .1 .0 .«bit_pos» + 20600) (a .p + 20664) (d .ensures .1) (omega (arith, rw (g .1) at (k .read-ue-to .ensures .1))),
+    )
+
+returns-2 : tie.Need-returns-2
+unfolding luma lumaSyntax
+returns-2 c =
+    let k = c .before .before .before .before in
+    let a = k .before .before .before .args in
+    let count = sym (k .read-ue-to .ensures .0) ∙ ap outcomeU (c .before .before .count2 .given .1) in
+    (sym (head-refused toLuma fromLuma (λ d. true) noLuma 24 lumaFilters (now (a .bytes)) (a .p) _ count), tt)
+
+pub read-luma-spec : {M : Type 1} → statement M
+read-luma-spec =
+    tie.close
+    (tie.spec
+    read-flag-requires
+    add-read-ue-to
+    read-ue-to-requires
+    enum-known-count
+    read-luma-filters-requires
+    enum-known-count-2
+    no-luma-requires
+    returns
+    returns-2)

@@ -1,0 +1,207 @@
+// The chroma and cross-component filters of alf_data().
+use crate::alf::CcRead;
+use crate::alf::ChromaRead;
+use crate::alf::VvcAlfCcFilters;
+use crate::alf::VvcAlfChroma;
+use crate::alf::no_cc;
+use crate::alf::no_chroma;
+use crate::alf_fields::clips_sent;
+use crate::alf_fields::read_clips;
+use crate::alf_fields::read_coefficients;
+use crate::alf_fields::read_ue_to;
+use crate::fields::SignedField;
+use crate::fields::Stop;
+use crate::fields::read_flag;
+use crate::fields::read_signed;
+use bitstream::bit_reader::FieldU;
+ghost use mathlib.Core.Path.{_≡_};
+ghost use mathlib.Core.Bool.{true, false};
+ghost use Prim.Native.Nat.{_+_, _*_, _≤_, _<_};
+ghost use lib.ListN.{length, replicate};
+ghost use lib.Seq.{sets};
+ghost use Rattle.bitstream.specs.Outcome.{mapOutcome};
+ghost use Rattle.aps.specs.Elements.{zipped};
+ghost use Rattle.aps.specs.AlfSyntax.{chroma, alternative, alternatives, chromaArrays, cc, ccCoefficients};
+ghost use Rattle.aps.specs.Reading.{EndsBy, outcomeStop};
+ghost use Rattle.aps.specs.Stops.{after, StopsBy};
+
+// One alternative: its coefficients and its clips.
+struct Alternative {
+    stop: Stop,
+    abs: [u32; 6],
+    sign: [bool; 6],
+    clip: [u8; 6],
+}
+
+// Alternatives that are sent are read alike, whichever it is and however many there are.
+fn read_alternative(bytes: &[u8], p: usize, clip: bool) -> Alternative
+    requires { ⌜ (length (now bytes) ≤ 65536) × (p ≤ 110000) ⌝ }
+    ensures { λ r. ⌜ (outcomeStop (r .stop) (zipped (r .abs) (r .sign), r .clip) ≡ (alternative clip 0 0) .read (now (bytes .entry)) p)
+        × StopsBy (r .stop) (p + 396) ⌝ }
+{
+    let mut abs = [0u32; 6];
+    let mut sign = [false; 6];
+    let mut clips = [0u8; 6];
+    let coefficients = read_coefficients(bytes, Stop::End(p), 6, &mut abs, &mut sign);
+    let stop = read_clips(bytes, coefficients, clips_sent(clip, 6), &mut clips);
+    Alternative {
+        stop,
+        abs,
+        sign,
+        clip: clips,
+    }
+}
+
+// An alternative stored as a row of the flat arrays.
+fn keep_alternative(
+    from: Alternative,
+    row: usize,
+    abs: &mut [u32; 48],
+    sign: &mut [bool; 48],
+    clip: &mut [u8; 48],
+)
+    requires { ⌜ row < 8 ⌝ }
+    ensures { λ r. ⌜ (now (abs .exit) ≡ sets (now (abs .entry)) (6 * row) (from .abs)) × (now (sign .exit) ≡ sets (now (sign .entry)) (6 * row) (from .sign))
+        × (now (clip .exit) ≡ sets (now (clip .entry)) (6 * row) (from .clip)) ⌝ }
+{
+    let mut j: usize = 0;
+    while j < 6 {
+        let i = 6 * row + j;
+        abs[i] = from.abs[j];
+        sign[i] = from.sign[j];
+        clip[i] = from.clip[j];
+        j += 1;
+    }
+}
+
+// The alternatives, one after another.
+fn read_alternatives(
+    bytes: &[u8],
+    p: usize,
+    clip: bool,
+    count_minus1: u32,
+    abs: &mut [u32; 48],
+    sign: &mut [bool; 48],
+    clips: &mut [u8; 48],
+) -> Stop
+    requires { ⌜ (length (now bytes) ≤ 65536) × (p ≤ 100000) × («count_minus1» ≤ 7)
+        × (now abs ≡ replicate 48 0) × (now sign ≡ replicate 48 false) × (now clips ≡ replicate 48 0) ⌝ }
+    ensures { λ r. ⌜ (outcomeStop r (now (abs .exit), (now (sign .exit), now (clips .exit)))
+        ≡ mapOutcome chromaArrays ((alternatives clip «count_minus1») .read (now (bytes .entry)) p))
+        × StopsBy r (p + 3168) ⌝ }
+{
+    let mut at = p;
+    let mut row: usize = 0;
+    while row <= count_minus1 as usize {
+        let alternative = read_alternative(bytes, at, clip);
+        let stop = alternative.stop;
+        at = match stop {
+            Stop::End(q) => q,
+            Stop::Refused(why) => return Stop::Refused(why),
+        };
+        keep_alternative(alternative, row, abs, sign, clips);
+        row += 1;
+    }
+    Stop::End(at)
+}
+
+// The chroma filters.
+pub(crate) fn read_chroma(bytes: &[u8], p: usize) -> ChromaRead
+    requires { ⌜ (length (now bytes) ≤ 65536) × (p ≤ 90000) ⌝ }
+    ensures { λ r. ⌜ (outcomeStop (r .stop) (r .chroma) ≡ (chroma true) .read (now (bytes .entry)) p) × EndsBy (outcomeStop (r .stop) (r .chroma)) (p + 3232) ⌝ }
+{
+    let clip = read_flag(bytes, p);
+    let count = read_ue_to(bytes, p + 1, 7);
+    match count {
+        FieldU::Value(n, r) => {
+            let mut abs = [0u32; 48];
+            let mut sign = [false; 48];
+            let mut clips = [0u8; 48];
+            let stop = read_alternatives(
+                bytes,
+                r.bit_pos,
+                clip,
+                n,
+                &mut abs,
+                &mut sign,
+                &mut clips,
+            );
+            ChromaRead {
+                stop,
+                chroma: VvcAlfChroma {
+                    alf_chroma_clip_flag: clip,
+                    alf_chroma_num_alt_filters_minus1: n,
+                    coeff_abs: abs,
+                    coeff_sign: sign,
+                    clip_idx: clips,
+                },
+            }
+        }
+        FieldU::Refused(why) => ChromaRead {
+            stop: Stop::Refused(why),
+            chroma: no_chroma(),
+        },
+    }
+}
+
+// The coefficients of Cb or Cr.
+fn read_cc_coefficients(
+    bytes: &[u8],
+    p: usize,
+    count_minus1: u32,
+    abs: &mut [u8; 28],
+    sign: &mut [bool; 28],
+) -> Stop
+    requires { ⌜ (length (now bytes) ≤ 65536) × (p ≤ 100000) × («count_minus1» ≤ 3)
+        × (now abs ≡ replicate 28 0) × (now sign ≡ replicate 28 false) ⌝ }
+    ensures { λ r. ⌜ (outcomeStop r (now (abs .exit), now (sign .exit)) ≡ (ccCoefficients «count_minus1») .read (now (bytes .entry)) p)
+        × StopsBy r (p + 112) ⌝ }
+{
+    let n = 7 * (count_minus1 as usize + 1);
+    let mut at = p;
+    let mut i: usize = 0;
+    while i < n {
+        let field = read_signed(bytes, at, 3);
+        match field {
+            SignedField::Value {
+                abs: a,
+                sign: b,
+                next,
+            } => {
+                abs[i] = a as u8;
+                sign[i] = b;
+                at = next;
+            }
+            SignedField::Refused(why) => return Stop::Refused(why),
+        }
+        i += 1;
+    }
+    Stop::End(at)
+}
+
+// The filters of Cb or Cr.
+pub(crate) fn read_cc(bytes: &[u8], p: usize) -> CcRead
+    requires { ⌜ (length (now bytes) ≤ 65536) × (p ≤ 90000) ⌝ }
+    ensures { λ r. ⌜ (outcomeStop (r .stop) (r .cc) ≡ (cc true) .read (now (bytes .entry)) p) × EndsBy (outcomeStop (r .stop) (r .cc)) (p + 175) ⌝ }
+{
+    let count = read_ue_to(bytes, p, 3);
+    match count {
+        FieldU::Value(n, r) => {
+            let mut abs = [0u8; 28];
+            let mut sign = [false; 28];
+            let stop = read_cc_coefficients(bytes, r.bit_pos, n, &mut abs, &mut sign);
+            CcRead {
+                stop,
+                cc: VvcAlfCcFilters {
+                    filters_signalled_minus1: n,
+                    mapped_coeff_abs: abs,
+                    coeff_sign: sign,
+                },
+            }
+        }
+        FieldU::Refused(why) => CcRead {
+            stop: Stop::Refused(why),
+            cc: no_cc(),
+        },
+    }
+}

@@ -1,0 +1,140 @@
+// The fields that the filters of alf_data() are made of.
+use crate::fields::SignedField;
+use crate::fields::Stop;
+use crate::fields::read_flag;
+use crate::fields::read_u;
+use crate::fields::read_ue;
+use bitstream::Refusal;
+use bitstream::bit_reader::FieldU;
+ghost use mathlib.Core.Path.{_≡_};
+ghost use mathlib.Core.Bool.{false, cond};
+ghost use Prim.Native.Nat.{_+_, _*_, _≤_, _<_};
+ghost use lib.Dec.{ltb};
+ghost use lib.ListN.{length, replicate};
+ghost use Rattle.bitstream.specs.Reading.{outcomeU};
+ghost use Rattle.aps.specs.Codec.{u, when, each};
+ghost use Rattle.aps.specs.Elements.{ueTo, noNumber, noSigned, apart};
+ghost use Rattle.aps.specs.AlfSyntax.{ceilLog2, coefficient};
+ghost use Rattle.aps.specs.Reading.{EndsBy, outcomeStop, outcomeSigned};
+ghost use Rattle.aps.specs.Stops.{after, StopsBy, Spans};
+
+// Ceil( Log2( x ) ).
+pub fn ceil_log2(x: u32) -> u32
+    ensures { λ r. ⌜ (r ≡ ceilLog2 x) × (r ≤ 32) ⌝ }
+{
+    if x <= 1 {
+        return 0;
+    }
+    32 - u32::leading_zeros(x - 1)
+}
+
+// ue(v) in 0..most.
+pub(crate) fn read_ue_to(bytes: &[u8], p: usize, most: u32) -> FieldU
+    requires { ⌜ (length (now bytes) ≤ 65536) × (p ≤ 900000) ⌝ }
+    ensures { λ r. ⌜ (outcomeU r ≡ (ueTo most) .read (now (bytes .entry)) p) × EndsBy (outcomeU r) (p + 63) ⌝ }
+{
+    let field = read_ue(bytes, p);
+    match field {
+        FieldU::Value(v, r) => {
+            if v <= most {
+                FieldU::Value(v, r)
+            } else {
+                FieldU::Refused(Refusal::InvalidData)
+            }
+        }
+        FieldU::Refused(why) => FieldU::Refused(why),
+    }
+}
+
+// A magnitude in 0..128, and its sign if it is not 0.
+pub(crate) fn read_coefficient(bytes: &[u8], p: usize) -> SignedField
+    requires { ⌜ (length (now bytes) ≤ 65536) × (p ≤ 900000) ⌝ }
+    ensures { λ r. ⌜ (outcomeSigned r ≡ coefficient .read (now (bytes .entry)) p) × EndsBy (outcomeSigned r) (p + 64) ⌝ }
+{
+    let magnitude = read_ue_to(bytes, p, 128);
+    match magnitude {
+        FieldU::Value(abs, r) => {
+            let q = r.bit_pos;
+            // Looked at before it is known to be sent: no bit is taken, and no branch has to be foretold.
+            let sign = read_flag(bytes, q);
+            if abs == 0 {
+                return SignedField::Value {
+                    abs: 0,
+                    sign: false,
+                    next: q,
+                };
+            }
+            SignedField::Value {
+                abs,
+                sign,
+                next: q + 1,
+            }
+        }
+        FieldU::Refused(why) => SignedField::Refused(why),
+    }
+}
+
+// The first n coefficients of two arrays of zeros.
+pub(crate) fn read_coefficients(
+    bytes: &[u8],
+    from: Stop,
+    n: usize,
+    abs: &mut [u32],
+    sign: &mut [bool],
+) -> Stop
+    requires { ⌜ (length (now bytes) ≤ 65536) × StopsBy from 200000 × (n ≤ length (now abs)) × (n ≤ 300)
+        × (now abs ≡ replicate (length (now abs)) 0) × (now sign ≡ replicate (length (now abs)) false) ⌝ }
+    ensures { λ r. ⌜ (outcomeStop r (now (abs .exit), now (sign .exit)) ≡ after from λ p.
+        (apart (each (length (now (abs .entry))) (λ i. when (ltb i n) noSigned coefficient))) .read (now (bytes .entry)) p)
+        × Spans from r (64 * n) ⌝ }
+{
+    let mut at = match from {
+        Stop::End(p) => p,
+        Stop::Refused(why) => return Stop::Refused(why),
+    };
+    let mut i: usize = 0;
+    while i < n {
+        let field = read_coefficient(bytes, at);
+        match field {
+            SignedField::Value {
+                abs: a,
+                sign: b,
+                next,
+            } => {
+                abs[i] = a;
+                sign[i] = b;
+                at = next;
+            }
+            SignedField::Refused(why) => return Stop::Refused(why),
+        }
+        i += 1;
+    }
+    Stop::End(at)
+}
+
+// The first n clips of an array of zeros.
+pub(crate) fn read_clips(bytes: &[u8], from: Stop, n: usize, clip: &mut [u8]) -> Stop
+    requires { ⌜ (length (now bytes) ≤ 65536) × StopsBy from 200000 × (n ≤ length (now clip)) × (n ≤ 300)
+        × (now clip ≡ replicate (length (now clip)) 0) ⌝ }
+    ensures { λ r. ⌜ (outcomeStop r (now (clip .exit)) ≡ after from λ p.
+        (each (length (now (clip .entry))) (λ i. when (ltb i n) noNumber (u 2))) .read (now (bytes .entry)) p)
+        × Spans from r (2 * n) ⌝ }
+{
+    let p = match from {
+        Stop::End(p) => p,
+        Stop::Refused(why) => return Stop::Refused(why),
+    };
+    let mut i: usize = 0;
+    while i < n {
+        clip[i] = read_u(bytes, p + 2 * i, 2) as u8;
+        i += 1;
+    }
+    Stop::End(p + 2 * n)
+}
+
+// How many clips are sent.
+pub fn clips_sent(clip: bool, n: usize) -> usize
+    ensures { λ r. ⌜ (r ≡ cond clip n 0) × (r ≤ n) ⌝ }
+{
+    if clip { n } else { 0 }
+}
