@@ -233,7 +233,7 @@ fn scaling_of(src: &[i64]) -> VvcScalingListData
     }
 }
 
-pub fn set_of(src: &[i64]) -> VvcAps
+pub(crate) fn set_of(src: &[i64]) -> VvcAps
     requires { ⌜ length (now src) ≡ 3122 ⌝ }
     ensures { λ r. ⌜ r ≡ setOf (now (src .entry)) ⌝ }
 {
