@@ -1,7 +1,7 @@
 //! Sets with one number changed, written into an output of some length: what the Rust writes.
 
 use crate::expected;
-use crate::h266::aps;
+use crate::h266::aps::{self, VvcApsPayload};
 use crate::random::Random;
 use crate::sets::extended;
 use crate::sets::make::{Maker, Style, STYLES};
@@ -62,6 +62,28 @@ fn made(kind: u8, style: Style, seed: u64) -> Vec<u8> {
         style,
     }
     .set(kind);
+    aps::write_aps(&set).expect("a set in range is written")
+}
+
+/// A full set of scaling lists with all copied but these.
+fn lists(sent: &[usize], seed: u64) -> Vec<u8> {
+    let mut random = Random::new(seed);
+    let mut set = Maker {
+        random: &mut random,
+        style: Style::Full,
+    }
+    .set(2);
+    let VvcApsPayload::ScalingList(d) = &mut set.payload else {
+        panic!("scaling lists")
+    };
+    for id in (0..28).filter(|id| !sent.contains(id)) {
+        d.copy_mode_flag[id] = true;
+        d.pred_mode_flag[id] = false;
+        d.scaling_list[id] = [0; 64];
+        if id > 13 {
+            d.dc_coef[id - 14] = 0;
+        }
+    }
     aps::write_aps(&set).expect("a set in range is written")
 }
 
@@ -160,7 +182,7 @@ pub fn sample() -> Vec<Change> {
     ] {
         of(&format!("scaling, {what}"), &COPIES, index, value, 100);
     }
-    let scaling = made(2, Style::Full, 31);
+    let scaling = lists(&[0, 2, 7, 26, 27], 31);
     let list = |id: usize, i: usize| 1330 + 64 * id + i;
     for (what, index, value) in [
         ("as it is", 0, 2),
@@ -180,7 +202,12 @@ pub fn sample() -> Vec<Change> {
     for (kind, name) in [(0, "ALF"), (1, "LMCS"), (2, "scaling")] {
         for (style, how) in STYLES.into_iter().zip(["sparse", "typical", "extreme", "full"]) {
             let rbsp = made(kind, style, 40 + u64::from(kind));
-            for room in [rbsp.len(), rbsp.len() - 1, rbsp.len() + 2, rbsp.len() + 40] {
+            let n = rbsp.len();
+            let rooms = match style {
+                Style::Full => vec![n - 1, n + 40],
+                _ => vec![n, n - 1, n + 2, n + 40],
+            };
+            for room in rooms {
                 of(&format!("{how} {name}, {room} bytes"), &rbsp, 0, kind.into(), room);
             }
         }

@@ -1,10 +1,10 @@
 -- What is returned and left in the lent arrays, from what an outcome equals.
 use Prim.Native.Nat.{ℕ}
-use mathlib.Core.Path.{_≡_, refl}
+use mathlib.Core.Path.{_≡_, refl, sym, ap, _∙_}
 use mathlib.Core.List.{List}
 use lib.IntN.{ℤ}
-use lib.ListN.{set}
-use lib.Seq.{sets}
+use lib.ListN.{set, length}
+use lib.Seq.{sets, length-sets}
 use Rattle.bitstream.specs.Outcome.{Outcome, value, refused}
 use Rattle.aps.specs.declared.aps.VvcAps.{VvcAps}
 use Rattle.aps.specs.declared.nal_header.VvcNalHeader.{VvcNalHeader}
@@ -45,3 +45,12 @@ module _ {o : Outcome VvcNalHeader} (l : List ℕ) where
   pub headed-refused : {e : ℕ} → o ≡ refused e → l ≡ headed o l
   unfolding headed
   headed-refused h = rw h
+
+length-given : (o : Outcome VvcAps) (l : List ℤ) → length (given o l) ≡ length l
+unfolding given
+length-given (value a p) l = length-sets l 0 (numbers a)
+length-given (refused e) l = refl
+
+-- a list as long as what is left of l is as long as l
+pub as-long : (o : Outcome VvcAps) (l k m : List ℤ) → k ≡ given o l → length m ≡ length k → length l ≡ length m
+as-long o l k m e f = sym (f ∙ ap length e ∙ length-given o l)

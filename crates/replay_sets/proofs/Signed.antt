@@ -1,5 +1,5 @@
--- The magnitude of an i64 that is not below -2147483648.
-use Prim.Native.Nat.{ℕ, suc, _<_}
+-- The magnitude of an i64 that is not below -2147483648, and a number of 32 bits with its sign changed.
+use Prim.Native.Nat.{ℕ, zero, suc, _<_}
 use mathlib.Core.Path.{_≡_, _∙_}
 use mathlib.Core.Bool.{true, false}
 use native.Mathlib.Omega.{arith}
@@ -9,7 +9,7 @@ use lib.IntN.{ℤ, pos, negsuc, negℤ, natAbs, _-ℤ_, +ℤ-idl}
 use lib.Signed.{ltZ, nonNeg}
 use mir.Syntax.{w64}
 use mir.Val.{toZ, ofZ, SFits}
-use mir.Facts.{toZ-ofZ}
+use mir.Facts.{toZ-ofZ, toZ-pos}
 
 pub record Magnitude (z : ℤ) : Type 0 where
   pub fits : SFits w64 z
@@ -29,3 +29,13 @@ above (negsuc n) f h = let z : _≡_ {A = ℕ} 0 1 = cc in absurd (omega arith)
 -- `-v`
 pub negated : (z : ℤ) → SFits w64 z → pos 0 -ℤ toZ w64 (ofZ w64 z) ≡ negℤ z
 negated z f = rw (toZ-ofZ f) (+ℤ-idl (negℤ z))
+
+below-zero : (n : ℕ) → n < 4294967296 → SFits w64 (negℤ (pos n))
+below-zero zero h = record { sfits = omega arith }
+below-zero (suc n) h = record { sfits = omega arith }
+
+-- `-n`, where n was unsigned
+pub changed-sign : (n : ℕ) → n < 4294967296 → SFits w64 (pos 0 -ℤ toZ w64 n)
+changed-sign n h =
+    let e : toZ w64 n ≡ pos n = toZ-pos w64 (omega (arith, h)) in
+    rw (e, +ℤ-idl (negℤ (pos n))) (below-zero n h)

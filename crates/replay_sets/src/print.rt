@@ -1,5 +1,4 @@
 // Words, numbers and bytes to standard output.
-ghost use Prim.Native.Nat.{_<_};
 
 pub fn text(s: &[u8]) {
     io::write_all(1, s);
@@ -45,17 +44,16 @@ pub fn runs(numbers: &[i64; 3122]) {
     }
 }
 
-// The hexadecimal digit of a value below 16.
-fn hex_digit(v: u8) -> u8
-    requires { ⌜ v < 16 ⌝ }
-{
-    if v < 10 { b'0' + v } else { b'A' + (v - 10) }
+// The hexadecimal digit of a byte's lower half.
+fn hex_digit(v: u8) -> u8 {
+    let d = v % 16;
+    if d < 10 { b'0' + d } else { b'A' + (d - 10) }
 }
 
 pub fn hexadecimal(s: &[u8]) {
     let mut i = 0;
     while i < s.len() {
-        let digits = [hex_digit(s[i] / 16), hex_digit(s[i] % 16)];
+        let digits = [hex_digit(s[i] / 16), hex_digit(s[i])];
         text(&digits);
         i += 1;
     }

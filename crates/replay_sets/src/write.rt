@@ -6,7 +6,8 @@ use crate::print::text;
 use aps_c::aps_parse_rbsp;
 use aps_c::aps_write;
 use aps_c::aps_write_nal;
-ghost use Prim.Native.Nat.{_≤_, _<_};
+ghost use Prim.Native.Nat.{_<_};
+ghost use mathlib.Core.Path.{_≡_};
 ghost use lib.ListN.{length};
 
 // The bytes of an answer, or the refusal's number.
@@ -37,22 +38,36 @@ fn signed(sign: u8, high: usize, low: usize) -> i64
     if sign == 0 { magnitude } else { -magnitude }
 }
 
-fn put(set: &mut [i64; 3122], i: usize, value: i64) {
+fn put(set: &mut [i64; 3122], i: usize, value: i64)
+    ensures { λ _. ⌜ length (now (set .exit)) ≡ length (now (set .entry)) ⌝ }
+{
     if i < 3122 {
         set[i] = value;
     }
 }
 
-fn both(set: &[i64], room: usize) {
-    let mut out = [0u8; 4096];
+fn both(set: &[i64], out: &mut [u8]) {
     let mut len = [0u64; 1];
-    let n = least(room, 4096);
-    let code = aps_write(set, &mut out[..n], &mut len);
-    answered(code, &out[..n], len[0]);
+    let code = aps_write(set, out, &mut len);
+    answered(code, out, len[0]);
     text(b", unit ");
-    let code = aps_write_nal(set, 17, &mut out[..n], &mut len);
-    answered(code, &out[..n], len[0]);
+    let code = aps_write_nal(set, 17, out, &mut len);
+    answered(code, out, len[0]);
     text(b"\n");
+}
+
+fn within(set: &[i64], room: usize) {
+    let mut out = io::buffer();
+    let n = least(room, 4096);
+    both(set, &mut out[..n]);
+}
+
+fn changed(rbsp: &[u8], i: usize, value: i64, room: usize) {
+    let mut set = [0i64; 3122];
+    let mut end = [0u64; 1];
+    aps_parse_rbsp(rbsp, &mut set, &mut end);
+    put(&mut set, i, value);
+    within(&set, room);
 }
 
 // An index, a sign, a magnitude and the room of the output, in 2, 1, 4 and 2 bytes.
@@ -60,14 +75,15 @@ pub fn change(rbsp: &[u8], change: &[u8]) {
     if change.len() < 9 {
         return;
     }
-    let mut set = [0i64; 3122];
-    let mut end = [0u64; 1];
-    aps_parse_rbsp(rbsp, &mut set, &mut end);
     let value = signed(
         change[2],
         pair(change[3], change[4]),
         pair(change[5], change[6]),
     );
-    put(&mut set, pair(change[0], change[1]), value);
-    both(&set, pair(change[7], change[8]));
+    changed(
+        rbsp,
+        pair(change[0], change[1]),
+        value,
+        pair(change[7], change[8]),
+    );
 }

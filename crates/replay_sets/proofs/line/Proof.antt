@@ -19,8 +19,17 @@ returns c = search needs
 add-digits : tie.Need-add-digits
 add-digits c = search needs
 
+find-requires-2 : tie.Need-find-requires-2
+find-requires-2 c κs = search needs
+
+add-least : tie.Need-add-least
+add-least c = search needs
+
+least-requires : tie.Need-least-requires
+least-requires c κs = search needs
+
 slice-aggregate-text : tie.Need-slice-aggregate-text
-slice-aggregate-text c = sym (length-take-le (c .before .before .find .result + 2) (c .before .before .before .before .args .s .now) (omega arith))
+slice-aggregate-text c = sym (length-take-le (c .before .before .before .before .find .result + 2) (c .before .before .before .before .before .before .args .s .now) (omega arith))
 
 text-requires : tie.Need-text-requires
 text-requires c κs = search needs
@@ -33,6 +42,15 @@ part-decoded-start c = search needs
 
 part-decoded-end : tie.Need-part-decoded-end
 part-decoded-end c = search needs
+
+sub-decoded-2 : tie.Need-sub-decoded-2
+sub-decoded-2 c = search needs
+
+part-decoded-start-2 : tie.Need-part-decoded-start-2
+part-decoded-start-2 c = search needs
+
+part-decoded-end-2 : tie.Need-part-decoded-end-2
+part-decoded-end-2 c = search needs
 
 decoded-requires : tie.Need-decoded-requires
 decoded-requires c κs = search needs
@@ -48,10 +66,16 @@ line-spec =
     sub-if1
     returns
     add-digits
+    find-requires-2
+    add-least
+    least-requires
     slice-aggregate-text
     text-requires
     sub-decoded
     part-decoded-start
     part-decoded-end
+    sub-decoded-2
+    part-decoded-start-2
+    part-decoded-end-2
     decoded-requires
     returns-2)
