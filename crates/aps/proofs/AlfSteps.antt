@@ -1,8 +1,8 @@
 -- The steps of alf_data( ), as its readers take them.
 use mathlib.Core.Path.{_≡_, refl, sym, ap, _∙_}
 use mathlib.Core.Bool.{Bool, true, false, cond, not, _&&_}
-use mathlib.Core.List.{List, _∷_}
-use Prim.Native.Nat.{ℕ, zero, suc, _+_, _-_, _*_, _/_, _^_, _≤_, _<_}
+use mathlib.Core.List.{List}
+use Prim.Native.Nat.{ℕ, _+_, _*_, _/_, _^_, _≤_, _<_}
 use native.Mathlib.Omega.{arith}
 use borrow.Author.Tests.{ltb-true, ltb-false, leb-true, lt-ltb, le-ltb, le-leb, lt-leb}
 use lib.Dec.{leb, ltb, eqb}
@@ -12,7 +12,7 @@ use Rattle.bitstream.specs.Bits.{fieldAt}
 use Rattle.bitstream.specs.Fields.{readUe}
 use Rattle.bitstream.proofs.CodeLaws.{value-refused}
 use Rattle.bitstream.proofs.FieldLaws.{field-lt}
-use Rattle.aps.specs.Codec.{Codec, u, ue, _▷_, via, judged, Inferred, when, eachFrom, each}
+use Rattle.aps.specs.Codec.{Codec, u, _▷_, via, judged, Inferred, when, each}
 use Rattle.aps.specs.Elements.{flag, ueTo, signed, noNumber, noSigned, apart}
 use Rattle.aps.specs.AlfSyntax.{ceilLog2, coefficient, lumaCoefficients, lumaClips}
 use Rattle.aps.specs.AlfSyntax.{ccSyntax, ccCoefficients, toCc, alf, alfSyntax, alfFilters, toAlf}
@@ -21,11 +21,8 @@ use Rattle.aps.specs.declared.alf.VvcAlfChroma.{VvcAlfChroma}
 use Rattle.aps.specs.declared.alf.VvcAlfCcFilters.{VvcAlfCcFilters}
 use Rattle.aps.specs.declared.alf.VvcAlfData.{VvcAlfData}
 use Rattle.aps.specs.AlfSyntax as Alf
-use Rattle.aps.proofs.Steps.{u-read, flag-read, signed-read, judged-read, when-read, Reading, reading-start, Reading2, reading2-start}
-
-pub ueTo-read : (most : ℕ) (s : List ℕ) (p : ℕ) → (ueTo most) .read s p ≡ _then_ (readUe s p) (λ v q. cond (leb v most) (value v q) (refused 2))
-unfolding ueTo judged ue
-ueTo-read most s p = refl
+use Rattle.aps.proofs.EachLaws.{each-same}
+use Rattle.aps.proofs.Steps.{u-read, ueTo-read, flag-read, signed-read, judged-read, when-read, Reading, reading-start, Reading2, reading2-start}
 
 pub ueTo-most : (most : ℕ) (s : List ℕ) (p v q : ℕ) → value v q ≡ (ueTo most) .read s p → v ≤ most
 ueTo-most most s p v q e = first (readUe s p) (e ∙ ueTo-read most s p)
@@ -37,21 +34,6 @@ ueTo-most most s p v q e = first (readUe s p) (e ∙ ueTo-read most s p)
     first : (o : Outcome ℕ) → value v q ≡ _then_ o (λ v q. cond (leb v most) (value v q) (refused 2)) → v ≤ most
     first (value w r) e = second w r (leb w most) refl e
     first (refused n) e = absurd (value-refused e)
-
--- arrays whose entries are read alike
-module _ {A : Type 0} (k l : ℕ → Codec A) (s : List ℕ) where
-  each-same-from : (i n p : ℕ) → ((j : ℕ) → j < i + n → (q : ℕ) → (k j) .read s q ≡ (l j) .read s q) → (eachFrom i n k) .read s p ≡ (eachFrom i n l) .read s p
-  unfolding eachFrom
-  each-same-from i zero p h = refl
-  each-same-from i (suc n) p h = rw (h i (omega arith) p) (go ((l i) .read s p) (λ q. each-same-from (suc i) n q (λ j b. h j (omega arith))))
-    where
-      go : (o : Outcome A) → ((q : ℕ) → (eachFrom (suc i) n k) .read s q ≡ (eachFrom (suc i) n l) .read s q)
-          → _then_ o (λ x q. _then_ ((eachFrom (suc i) n k) .read s q) (λ xs r. value (x ∷ xs) r)) ≡ _then_ o (λ x q. _then_ ((eachFrom (suc i) n l) .read s q) (λ xs r. value (x ∷ xs) r))
-      go (value x q) ih = rw (ih q)
-      go (refused e) ih = refl
-
-  pub each-same : (n p : ℕ) → ((j : ℕ) → j < n → (q : ℕ) → (k j) .read s q ≡ (l j) .read s q) → (each n k) .read s p ≡ (each n l) .read s p
-  each-same n p h = each-same-from 0 n p (λ j b. h j (omega arith))
 
 -- an entry of a flat array is in a row that is sent, or below the count of entries sent
 pub row-test : (i n : ℕ) → ltb i (12 * (n + 1)) ≡ leb (i / 12) n
@@ -67,14 +49,10 @@ sent-test false i n = le-ltb i 0 (omega arith)
 
 module _ (n : ℕ) (s : List ℕ) (p : ℕ) where
   pub luma-coefficients : (apart (each 300 λ i. when (ltb i (12 * (n + 1))) noSigned coefficient)) .read s p ≡ (lumaCoefficients n) .read s p
-  unfolding apart via
-  luma-coefficients =
-      rw (each-same (λ i. when (ltb i (12 * (n + 1))) noSigned coefficient) (λ i. when (leb (i / 12) n) noSigned coefficient) s 300 p (λ j h q. rw (row-test j n)))
+  luma-coefficients = ap (λ (c : Codec (List (ℕ × Bool))). (apart c) .read s p) (each-same 300 λ j h. rw (row-test j n))
 
   pub luma-clips : (clip : Bool) → (each 300 λ i. when (ltb i (cond clip (12 * (n + 1)) 0)) noNumber (u 2)) .read s p ≡ (lumaClips clip n) .read s p
-  luma-clips clip =
-      each-same (λ i. when (ltb i (cond clip (12 * (n + 1)) 0)) noNumber (u 2)) (λ i. when (clip && leb (i / 12) n) noNumber (u 2)) s 300 p
-      (λ j h q. rw (sent-test clip j (12 * (n + 1)), row-test j n))
+  luma-clips clip = ap (λ (c : Codec (List ℕ)). c .read s p) (each-same 300 λ j h. rw (sent-test clip j (12 * (n + 1)), row-test j n))
 
 -- a loop starts with arrays of what is inferred
 pub reading-from : {A : Type 0} (k : ℕ → Codec A) (N : ℕ) (v : A) (s : List ℕ) (p : ℕ) (a : List A) → a ≡ replicate N v → Reading k N v s p 0 a p

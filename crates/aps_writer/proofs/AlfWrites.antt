@@ -27,7 +27,7 @@ use Rattle.aps_writer.specs.Writing.{writes, Wrote, unsent}
 use Rattle.aps.specs.declared.fields.Stop.{Stop}
 use Rattle.aps.specs.declared.fields.Stop.the-variants as Stop
 use Rattle.aps.proofs.CodecLaws.{and-both}
-use Rattle.aps.proofs.RowLaws.{length-rows}
+use Rattle.aps.proofs.ElementLaws.{length-rows}
 use Rattle.aps.proofs.Steps.{when-ok}
 use Rattle.aps.proofs.AlfSteps.{row-test, sent-test}
 use Rattle.aps.proofs.StopLaws.{after-same, stops-more}

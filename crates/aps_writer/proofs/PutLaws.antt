@@ -1,6 +1,6 @@
 -- What the field writes of the library below make of a value, as the description's fields.
 use borrow.Author.Tests.{lt-ltb, le-leb, lt-leb, ne-eqb}
-use mathlib.Core.Path.{_≡_, refl, sym, ap, _∙_}
+use mathlib.Core.Path.{_≡_, refl, sym, _∙_}
 use mathlib.Core.Bool.{Bool, true, false, cond, not, _&&_}
 use mathlib.Core.List.{List}
 use Prim.Native.Nat.{ℕ, suc, _+_, _*_, _≤_, _<_}

@@ -1,15 +1,15 @@
 -- Demand 2: a set that was read is written as the bytes it was read from, and a set that was written is read back, as an RBSP and as a unit.
 use mathlib.Core.Path.{_≡_, refl, sym, ap, _∙_}
-use mathlib.Core.Bool.{Bool, true, false, cond, _||_}
-use mathlib.Core.List.{List, [], _∷_, _++_, append-nil}
-use Prim.Native.Nat.{ℕ, suc, _+_, _*_, _-_, _/_, _%_, _≤_, _<_}
+use mathlib.Core.Bool.{Bool, true, false, cond}
+use mathlib.Core.List.{List, [], _++_, append-nil}
+use Prim.Native.Nat.{ℕ, suc, _+_, _*_, _-_, _/_, _≤_, _<_}
 use native.Mathlib.Omega.{arith}
-use borrow.Author.Tests.{ltb-true, ltb-false, le-ltb, lt-ltb, eqb-true, eqb-false}
-use lib.Dec.{ltb, eqb, lit≤}
-use lib.ListN.{length, getD, take, drop, length-append, take-append-drop}
+use borrow.Author.Tests.{le-ltb}
+use lib.Dec.{ltb, lit≤}
+use lib.ListN.{length, getD, take, drop, take-append-drop}
 use lib.Seq.{take-append-seam}
 use Rattle.bitstream.specs.Outcome.{Outcome, value, refused, _then_}
-use Rattle.bitstream.specs.Escapes.{escape, unescape, putBytes}
+use Rattle.bitstream.specs.Escapes.{escape, putBytes}
 use Rattle.bitstream.proofs.CodeLaws.{value-refused}
 use Rattle.bitstream.proofs.KeepLaws.{Bytes}
 use Rattle.bitstream.proofs.EscapeLaws.{unescape-of-escape, escape-most}
@@ -20,7 +20,7 @@ use Rattle.aps_writer.specs.Writing.{bytesDue, writeAps, unitOf, writeAp
 use Rattle.aps.specs.declared.aps.ApsKind.{ApsKind}
 use Rattle.aps.specs.declared.aps.VvcAps.{VvcAps}
 use Rattle.aps.proofs.RbspSteps.{in-limits}
-use Rattle.aps.proofs.RbspLaws.{mostBytes, rbsp-sound, rbsp-end, read-write, read-stands, write-read, rbsp-some, rbsp-most, rbsp-last}
+use Rattle.aps.proofs.RbspLaws.{mostBytes, rbsp-sound, read-write, write-read, rbsp-some, rbsp-most, rbsp-last}
 
 most-le : (k : ApsKind) → mostBytes k ≤ 2931
 most-le ApsKind.Alf = lit≤ tt

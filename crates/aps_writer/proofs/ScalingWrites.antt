@@ -31,9 +31,9 @@ use Rattle.aps.specs.declared.scaling_list.VvcScalingListData.{VvcScalingListDa
 use Rattle.aps.proofs.CodecLaws.{never-true}
 use Rattle.aps.proofs.ElementLaws.{zeros-mono}
 use Rattle.aps.proofs.SignedLaws.{mag-abs, add-abs}
-use Rattle.aps.proofs.ScalingLaws.{eqZ-only, just-is, noEntry-is}
+use Rattle.aps.proofs.ScalingLaws.{entries-le, eqZ-only, just-is, noEntry-is}
 use Rattle.aps.proofs.StopLaws.{after-same, stops-more}
-use Rattle.aps.proofs.ScalingSteps.{se8, entries-le}
+use Rattle.aps.proofs.ScalingSteps.{se8}
 use Rattle.aps_writer.proofs.WriteSteps.{writes-via, writes-▷, writes-nil, after-then, spans-then, spans-more, wrote-more, wrote-when, wrote-none, wrote-via, wrote-bad, wrote-▷, Writing, writing-start, writing-more, writing-done}
 
 -- ---- i32 values

@@ -1,8 +1,8 @@
 -- What a function's proof rewrites with: how each piece is written, runs of them one after another, and the steps of a loop that writes an array.
 use mathlib.Core.Path.{_≡_, refl, sym, ap, _∙_}
-use mathlib.Core.Bool.{Bool, true, false, cond, not, _&&_}
+use mathlib.Core.Bool.{Bool, true, false, cond, _&&_}
 use mathlib.Core.List.{List, [], _∷_, _++_}
-use Prim.Native.Nat.{ℕ, zero, suc, _+_, _-_, _≤_, _<_}
+use Prim.Native.Nat.{ℕ, suc, _+_, _-_, _≤_, _<_}
 use native.Mathlib.Nat.{add-zero, add-assoc, sub-zero}
 use native.Mathlib.Omega.{arith}
 use lib.ListN.{length, drop, length-append}
@@ -15,10 +15,9 @@ use Rattle.bitstream.specs.declared.Refusal.{Refusal}
 use Rattle.bitstream.specs.declared.Refusal.the-variants.{InvalidData}
 use Rattle.bitstream.proofs.CodeLaws.{value-refused}
 use Rattle.bitstream.proofs.WriteLaws.{puts-append}
-use Rattle.aps.specs.Codec.{Codec, u, ue, _▷_, via, judged, Inferred, when, eachFrom, each, provided}
-use Rattle.aps.specs.Elements.{every}
+use Rattle.aps.specs.Codec.{Codec, _▷_, via, judged, Inferred, when, eachFrom, each, provided}
 use Rattle.aps.specs.Reading.{outcomeStop}
-use Rattle.aps.specs.Stops.{after, StopsBy, Spans}
+use Rattle.aps.specs.Stops.{after, Spans}
 use Rattle.aps_writer.specs.Writing.{writes, Wrote, unsent}
 use Rattle.aps.specs.declared.fields.Stop.{Stop}
 use Rattle.aps.specs.declared.fields.Stop.the-variants as Stop

@@ -1,9 +1,8 @@
 -- `no_flags`: the loop has looked at the entries before i.
-use borrow.Author.Needs.{needs}
 use mathlib.Core.Logic.{⊎-elim}
 use mathlib.Core.Path.{_≡_, refl, ap}
 use mathlib.Core.Bool.{false, not, _&&_}
-use Prim.Native.Nat.{ℕ, suc, _+_, _-_, _≤_, _<_}
+use Prim.Native.Nat.{suc, _+_, _-_, _≤_, _<_}
 use native.Mathlib.Omega.{arith}
 use denote.Ref.{now}
 use lib.ListN.{length, drop}
