@@ -1,29 +1,29 @@
 -- What the field writes of the library below make of a value, as the description's fields.
 use borrow.Author.Tests.{lt-ltb, le-leb, lt-leb, ne-eqb}
-use mathlib.Core.Path.{_≡_, refl, sym, _∙_}
-use mathlib.Core.Bool.{Bool, true, false, cond, not, _&&_}
+use mathlib.Core.Path.{_≡_, refl, _∙_}
+use mathlib.Core.Bool.{Bool, true, false, cond, not, _&&_, and-false}
 use mathlib.Core.List.{List}
-use Prim.Native.Nat.{ℕ, suc, _+_, _*_, _≤_, _<_}
+use Prim.Native.Nat.{ℕ, _+_, _*_, _≤_, _<_}
 use native.Mathlib.Omega.{arith}
 use lib.Dec.{ltb, leb, eqb}
 use lib.IntN.{ℤ, pos, negsuc}
 use lib.Signed.{leZ, ltZ}
-use lib.ListN.{length, getD, drop}
-use lib.Seq.{drop-cons, drop-length}
+use lib.ListN.{length}
 use Rattle.bitstream.specs.Outcome.{value}
 use Rattle.bitstream.specs.Bits.{putBits}
 use Rattle.bitstream.specs.Fields.{ueBits, ueZeros, seCode}
 use Rattle.bitstream.specs.Writing.{writeUeAt, writeSeAt}
 use Rattle.bitstream.proofs.WriteLaws.{length-ue, length-ue-most, due-some, put-fits}
 use Rattle.aps.specs.Codec.{Codec, u, ue, via, judged, when}
-use Rattle.aps.specs.Elements.{flag, ueTo, se, seIn, noFlag, signed, every}
+use Rattle.aps.specs.Elements.{flag, ueTo, se, seIn, noFlag, signed}
 use Rattle.aps_writer.specs.Writing.{Wrote, unsent}
 use Rattle.aps.specs.declared.fields.Stop.{Stop}
 use Rattle.aps.proofs.CodecLaws.{and-both}
 use Rattle.aps.proofs.ElementLaws.{ue-most}
 use Rattle.aps.proofs.SignedLaws.{not-ltZ}
 use Rattle.aps.proofs.ScalingLaws.{se8-law, code-le}
-use Rattle.aps_writer.proofs.WriteSteps.{wrote-none, wrote-more, wrote-when, wrote-via, wrote-▷}
+use Rattle.aps_writer.proofs.WriteSteps.{wrote-via, wrote-▷}
+use Rattle.aps_writer.proofs.SentWrites.{when-sent, when-unsent}
 
 -- ---- ue(v)
 
@@ -37,10 +37,6 @@ ue-wrote out p v h l k =
 pub ueTo-fits : (most v : ℕ) → most < 4294967295 → v ≤ most → (ueTo most) .ok v ≡ true
 unfolding ueTo judged ue
 ueTo-fits most v h l = and-both (ltb v 4294967295) (leb v most) (lt-ltb v 4294967295 (omega arith)) (le-leb v most l)
-
-pub and-false : (b : Bool) → (b && false) ≡ false
-and-false true = refl
-and-false false = refl
 
 pub ueTo-wide : (most v : ℕ) → most < v → (ueTo most) .ok v ≡ false
 unfolding ueTo judged ue
@@ -95,34 +91,13 @@ flag-is {b} w = wrote-via (λ v. not (eqb v 0)) (λ b. cond b 1 0) (λ b. true) 
 module _ {m : ℕ} {s : Bool} {from to : Stop} where
   -- none after a magnitude of 0
   pub sign-none : {out : List ℕ} → m ≡ 0 → to ≡ unsent from (not s) → Wrote (when (not (eqb m 0)) noFlag flag) s 1 from to out out
-  sign-none {out} e f = rw e (wrote-more (when false noFlag flag) s 0 1 (omega arith) (wrote-none noFlag flag s from to out f))
+  sign-none e f = when-unsent noFlag flag s 1 (rw e) f
 
   pub sign-sent : {out out′ : List ℕ} → (m ≡ 0 → ⊥) → Wrote flag s 1 from to out out′ → Wrote (when (not (eqb m 0)) noFlag flag) s 1 from to out out′
-  sign-sent n w = rw (ne-eqb m 0 n) (wrote-when flag s 1 noFlag w)
+  sign-sent n w = when-sent noFlag flag s 1 (rw (ne-eqb m 0 n)) w
 
 -- a magnitude, then its sign
 pub sign-after : (c : Codec ℕ) {abs : ℕ} {sign : Bool} {m : ℕ} {from mid to : Stop} {out out₁ out₂ : List ℕ}
     → Wrote c abs m from mid out out₁ → Wrote (when (not (eqb abs 0)) noFlag flag) sign 1 mid to out₁ out₂ → Wrote (signed c) (abs, sign) (m + 1) from to out out₂
 unfolding signed
 sign-after c {abs} {sign} {m} v w = wrote-▷ c (λ a. when (not (eqb a 0)) noFlag flag) abs sign m 1 v w
-
--- ---- arrays of which nothing is sent
-
-pub and-true : (b : Bool) → (b && true) ≡ b
-and-true true = refl
-and-true false = refl
-
-module _ {A : Type 0} (f : A → Bool) (d : A) (l : List A) (i : ℕ) where
-  every-step : i < length l → every f (drop i l) ≡ (f (getD l i d) && every f (drop (suc i) l))
-  every-step h = rw (drop-cons l i d h)
-
-  -- an entry that is not what is inferred
-  pub every-less : (all t : Bool) → i < length l → f (getD l i d) ≡ false → (all && every f (drop i l)) ≡ t → (false && every f (drop (suc i) l)) ≡ t
-  every-less all t h e w = sym (and-false all) ∙ (rw (every-step h, e) at w)
-
-  -- and one that is
-  pub every-more : (all t : Bool) → i < length l → f (getD l i d) ≡ true → (all && every f (drop i l)) ≡ t → (all && every f (drop (suc i) l)) ≡ t
-  every-more all t h e w = rw (every-step h, e) at w
-
-  pub every-done : (all t : Bool) → i ≡ length l → (all && every f (drop i l)) ≡ t → all ≡ t
-  every-done all t h w = sym (and-true all) ∙ (rw (h, drop-length l) at w)

@@ -2,7 +2,7 @@
 use borrow.Author.Tests.{lt-ltb, le-ltb, le-leb, lt-leb, ltb-true, ltb-false, eqb-true}
 use borrow.Rule.Slice.PartMut.{midOf, putMid, put-same}
 use mathlib.Core.Path.{_≡_, refl, sym, ap, _∙_}
-use mathlib.Core.Bool.{Bool, true, false, cond, _||_}
+use mathlib.Core.Bool.{Bool, true, false, cond, _||_, and-false}
 use mathlib.Core.List.{List, [], _∷_, _++_, append-nil}
 use Prim.Native.Nat.{ℕ, zero, suc, _+_, _-_, _*_, _/_, _%_, _≤_, _<_}
 use native.Mathlib.Nat.{zero-add}
@@ -36,7 +36,6 @@ use Rattle.aps.specs.declared.fields.Stop.{Stop}
 use Rattle.aps.specs.declared.fields.Stop.the-variants as Stop
 use Rattle.aps.specs.declared.alf.VvcAlfData.{VvcAlfData}
 use Rattle.aps.specs.declared.lmcs.VvcLmcsData.{VvcLmcsData}
-use Rattle.aps_writer.proofs.PutLaws.{and-false}
 use Rattle.aps.proofs.RbspLaws.{length-rbsp, bits-rbsp}
 use Rattle.aps_writer.proofs.WriteSteps.{writes-via, wrote-as, wrote-▷, wrote-more, wrote-judged, wrote-provided, wrote-via}
 

@@ -117,6 +117,11 @@ module _ {A : Type 0} (k : ℕ → Codec A) where
 
 -- ---- runs
 
+-- a run that stopped has its value there
+pub stop-value : {A : Type 0} (at : Stop) (a : A) → outcomeStop at a ≡ after at (λ p. value a p)
+stop-value (Stop.End p) a = refl
+stop-value (Stop.Refused n) a = refl
+
 -- what follows a run starts where the run stopped
 pub after-then : {A B : Type 0} (from to : Stop) (a : A) (f : ℕ → Outcome A) (g : A → ℕ → Outcome B) → outcomeStop to a ≡ after from f
     → after from (λ p. f p then g) ≡ after to (g a)
@@ -235,11 +240,7 @@ module _ {A : Type 0} (k : ℕ → Codec A) (N : ℕ) (xs : List A) (from : Stop
   pub writing-done : (at : Stop) (now : List ℕ) → drop N xs ≡ [] → Writing N at now → outcomeStop at now ≡ after from (writes (each N k) xs out)
   writing-done at now e w =
       let s : N - N ≡ 0 = omega arith in
-      last at ∙ sym (after-same at _ _ (λ p. writes-nil k N now p)) ∙ (rw (s, e) at w)
-    where
-      last : (at : Stop) → outcomeStop at now ≡ after at (λ p. value now p)
-      last (Stop.End q) = refl
-      last (Stop.Refused n) = refl
+      stop-value at now ∙ sym (after-same at _ _ (λ p. writes-nil k N now p)) ∙ (rw (s, e) at w)
 
 -- ---- a field that was written by the library below
 

@@ -12,7 +12,9 @@ use Rattle.aps.specs.AlfSyntax.{alternative}
 use Rattle.aps.specs.Stops.{Spans}
 use Rattle.aps.proofs.StopLaws.{stops-more}
 use Rattle.aps_writer.proofs.WriteSteps.{Writing, writing-start, writing-more, spans-then, spans-more}
-use Rattle.aps_writer.proofs.AlfWrites.{spans-here, wrote-each, rows-step, rows-length, alternatives-wrote}
+use Rattle.aps_writer.proofs.SentWrites.{spans-here}
+use Rattle.aps_writer.proofs.ArrayWrites.{wrote-each, rows-step, rows-length}
+use Rattle.aps_writer.proofs.AlfFilters.{alternatives-wrote}
 use Rattle.aps_writer.proofs.alf.put_alternatives.Statement.{statement}
 use Rattle.aps_writer.proofs.alf.put_alternatives.Tie as tie
 

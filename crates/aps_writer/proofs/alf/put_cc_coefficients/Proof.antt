@@ -11,7 +11,9 @@ use Rattle.aps.specs.Elements.{signed, noNumber, noFlag, noSigned, zipped}
 use Rattle.aps.specs.Stops.{Spans}
 use Rattle.aps.proofs.StopLaws.{stops-more}
 use Rattle.aps_writer.proofs.WriteSteps.{Writing, writing-start, spans-then, spans-more}
-use Rattle.aps_writer.proofs.AlfWrites.{spans-here, firstSent, sent-more, zipped-step, pairs-done, cc-wrote}
+use Rattle.aps_writer.proofs.SentWrites.{spans-here}
+use Rattle.aps_writer.proofs.ArrayWrites.{firstSent, sent-more, zipped-step, pairs-done}
+use Rattle.aps_writer.proofs.AlfFilters.{cc-wrote}
 use Rattle.aps_writer.proofs.alf.put_cc_coefficients.Statement.{statement}
 use Rattle.aps_writer.proofs.alf.put_cc_coefficients.Tie as tie
 

@@ -12,7 +12,8 @@ use Rattle.aps.specs.Stops.{Spans}
 use Rattle.aps_writer.specs.Writing.{unsent}
 use Rattle.aps.proofs.StopLaws.{stops-more}
 use Rattle.aps_writer.proofs.WriteSteps.{Writing, writing-start, spans-then, spans-more}
-use Rattle.aps_writer.proofs.AlfWrites.{spans-here, firstSent, sent-more, sent-done}
+use Rattle.aps_writer.proofs.SentWrites.{spans-here}
+use Rattle.aps_writer.proofs.ArrayWrites.{firstSent, sent-more, sent-done}
 use Rattle.aps_writer.proofs.alf.put_clips.Statement.{statement}
 use Rattle.aps_writer.proofs.alf.put_clips.Tie as tie
 

@@ -10,7 +10,9 @@ use Rattle.aps.specs.Stops.{Spans}
 use Rattle.aps_writer.specs.Writing.{unsent}
 use Rattle.aps.proofs.StopLaws.{stops-more}
 use Rattle.aps_writer.proofs.WriteSteps.{Writing, writing-start, writing-more, spans-then, spans-more}
-use Rattle.aps_writer.proofs.AlfWrites.{spans-here, indexSent, index-sent, indexes-none, wrote-each}
+use Rattle.aps_writer.proofs.SentWrites.{spans-here}
+use Rattle.aps_writer.proofs.ArrayWrites.{wrote-each}
+use Rattle.aps_writer.proofs.AlfFilters.{indexSent, index-sent, indexes-none}
 use Rattle.aps_writer.proofs.alf.put_indexes.Statement.{statement}
 use Rattle.aps_writer.proofs.alf.put_indexes.Tie as tie
 

@@ -8,11 +8,12 @@ use denote.Ref.{now}
 use lib.ListN.{length, getD}
 use Rattle.aps.specs.Elements.{zipped}
 use Rattle.aps.specs.Stops.{Spans}
-use Rattle.aps.proofs.LmcsSteps.{in-range}
+use Rattle.aps.proofs.LmcsSteps.{in-range, bin}
 use Rattle.aps.proofs.StopLaws.{stops-more}
-use Rattle.aps_writer.proofs.WriteSteps.{spans-then, spans-more, Writing, writing-start, writing-more, writing-done}
-use Rattle.aps_writer.proofs.AlfWrites.{zipped-step}
-use Rattle.aps_writer.proofs.LmcsWrites.{bin, zipped-end, codewords-wrote}
+use Rattle.aps_writer.proofs.WriteSteps.{spans-then, spans-more, Writing, writing-start, writing-more}
+use Rattle.aps_writer.proofs.SentWrites.{spans-here}
+use Rattle.aps_writer.proofs.ArrayWrites.{zipped-length, zipped-step, wrote-each}
+use Rattle.aps_writer.proofs.LmcsWrites.{codewords-wrote}
 use Rattle.aps_writer.proofs.lmcs.put_codewords.Statement.{statement}
 use Rattle.aps_writer.proofs.lmcs.put_codewords.Tie as tie
 
@@ -29,7 +30,7 @@ loop-holds c =
     let a = b .args in (
       omega arith,
       refl,
-      λ m s. stops-more (a .from) m (m + 0) s (omega arith),
+      spans-here (a .from) (16 * 0),
       writing-start (bin (a .min) (a .max) (a .prec)) 16 (zipped (now (a .abs)) (now (a .sign))) (a .from) (now (a .out)),
     )
 
@@ -92,9 +93,10 @@ returns c =
     let a = b .args in
     let o = l .loop in
     let e : o .i ≡ 16 = omega arith in
-    codewords-wrote (a .min) (a .max) (a .prec) (now (a .abs)) (now (a .sign)) (b .pre .3 ∙ sym (b .pre .4))
-    (writing-done (bin (a .min) (a .max) (a .prec)) 16 (zipped (now (a .abs)) (now (a .sign))) (a .from) (now (a .out)) (o .at) (o .out)
-    (zipped-end (now (a .abs)) (now (a .sign)) 16 (b .pre .3)) (rw e at (o .inv .3))) (rw e at (o .inv .2))
+    let s : length (now (a .sign)) ≡ length (now (a .abs)) = b .pre .4 ∙ sym (b .pre .3) in
+    codewords-wrote (a .min) (a .max) (a .prec) (now (a .abs)) (now (a .sign)) s
+    (wrote-each (bin (a .min) (a .max) (a .prec)) 16 (zipped (now (a .abs)) (now (a .sign))) (a .from) (now (a .out)) (o .i) (o .at) (o .out) 256 e
+    (zipped-length (now (a .abs)) (now (a .sign)) s ∙ b .pre .3) (o .inv .3) (rw e at (o .inv .2)))
 
 pub put-codewords-spec : {M : Type 1} → statement M
 put-codewords-spec =
