@@ -3,6 +3,7 @@ use mathlib.Core.Path.{_≡_, refl, sym, ap, _∙_}
 use mathlib.Core.Bool.{Bool, true, false, cond, not, _&&_}
 use mathlib.Core.List.{List}
 use Prim.Native.Nat.{ℕ, _+_, _*_, _/_, _^_, _≤_, _<_}
+use native.Mathlib.Nat.{mul-comm, div-lt-iff-lt-mul, le-div-iff-mul-le}
 use native.Mathlib.Omega.{arith}
 use borrow.Author.Tests.{ltb-true, ltb-false, leb-true, lt-ltb, le-ltb, le-leb, lt-leb}
 use lib.Dec.{leb, ltb, eqb}
@@ -36,23 +37,30 @@ ueTo-most most s p v q e = first (readUe s p) (e ∙ ueTo-read most s p)
     first (refused n) e = absurd (value-refused e)
 
 -- an entry of a flat array is in a row that is sent, or below the count of entries sent
-pub row-test : (i n : ℕ) → ltb i (12 * (n + 1)) ≡ leb (i / 12) n
-row-test i n = go (ltb i (12 * (n + 1))) refl
+pub row-test : (w i n : ℕ) → 0 < w → ltb i (w * (n + 1)) ≡ leb (i / w) n
+row-test w i n some = go (ltb i (w * (n + 1))) refl
   where
-    go : (b : Bool) → ltb i (12 * (n + 1)) ≡ b → b ≡ leb (i / 12) n
-    go true e = sym (le-leb (i / 12) n (omega (arith, ltb-true i (12 * (n + 1)) e)))
-    go false e = sym (lt-leb (i / 12) n (omega (arith, ltb-false i (12 * (n + 1)) e)))
+    go : (b : Bool) → ltb i (w * (n + 1)) ≡ b → b ≡ leb (i / w) n
+    go true e =
+        let h : i < (n + 1) * w = rw (mul-comm w (n + 1)) at (ltb-true i (w * (n + 1)) e) in
+        let k : i / w < n + 1 = div-lt-iff-lt-mul some .1 h in
+        sym (le-leb (i / w) n (omega arith))
+    go false e =
+        let h : (n + 1) * w ≤ i = rw (mul-comm w (n + 1)) at (ltb-false i (w * (n + 1)) e) in
+        let k : n + 1 ≤ i / w = le-div-iff-mul-le some .1 h in
+        sym (lt-leb (i / w) n (omega arith))
 
+-- a clip is sent where the flag is set and the entry is
 pub sent-test : (clip : Bool) (i n : ℕ) → ltb i (cond clip n 0) ≡ (clip && ltb i n)
 sent-test true i n = refl
 sent-test false i n = le-ltb i 0 (omega arith)
 
 module _ (n : ℕ) (s : List ℕ) (p : ℕ) where
   pub luma-coefficients : (apart (each 300 λ i. when (ltb i (12 * (n + 1))) noSigned coefficient)) .read s p ≡ (lumaCoefficients n) .read s p
-  luma-coefficients = ap (λ (c : Codec (List (ℕ × Bool))). (apart c) .read s p) (each-same 300 λ j h. rw (row-test j n))
+  luma-coefficients = ap (λ (c : Codec (List (ℕ × Bool))). (apart c) .read s p) (each-same 300 λ j h. rw (row-test 12 j n (omega arith)))
 
   pub luma-clips : (clip : Bool) → (each 300 λ i. when (ltb i (cond clip (12 * (n + 1)) 0)) noNumber (u 2)) .read s p ≡ (lumaClips clip n) .read s p
-  luma-clips clip = ap (λ (c : Codec (List ℕ)). c .read s p) (each-same 300 λ j h. rw (sent-test clip j (12 * (n + 1)), row-test j n))
+  luma-clips clip = ap (λ (c : Codec (List ℕ)). c .read s p) (each-same 300 λ j h. rw (sent-test clip j (12 * (n + 1)), row-test 12 j n (omega arith)))
 
 -- a loop starts with arrays of what is inferred
 pub reading-from : {A : Type 0} (k : ℕ → Codec A) (N : ℕ) (v : A) (s : List ℕ) (p : ℕ) (a : List A) → a ≡ replicate N v → Reading k N v s p 0 a p
@@ -62,15 +70,15 @@ pub reading2-from : {A B : Type 0} (k : ℕ → Codec (A × B)) (N : ℕ) (v : A
     → a ≡ replicate N v → b ≡ replicate N w → Reading2 k N v w s p 0 a b p
 reading2-from k N v w s p a b e f = rw (e, f) (reading2-start k N v w s p)
 
--- an index, where there is more than one filter
-module _ (count-1 : ℕ) (s : List ℕ) (q bits x : ℕ) (width : bits ≡ ceilLog2 (count-1 + 1)) (field : x ≡ fieldAt s q bits) (some : 0 < count-1) where
-  abbrev index : Codec ℕ
-  index = when (ltb 0 count-1) noNumber (judged (λ x. leb x count-1) (u (ceilLog2 (count-1 + 1))))
+-- an index is sent where there is more than one filter
+abbrev pub index : ℕ → Codec ℕ
+index count-1 = when (ltb 0 count-1) noNumber (judged (λ x. leb x count-1) (u (ceilLog2 (count-1 + 1))))
 
-  pub index-taken : x ≤ count-1 → index .read s q ≡ value x (q + bits)
+module _ (count-1 : ℕ) (s : List ℕ) (q bits x : ℕ) (width : bits ≡ ceilLog2 (count-1 + 1)) (field : x ≡ fieldAt s q bits) (some : 0 < count-1) where
+  pub index-taken : x ≤ count-1 → (index count-1) .read s q ≡ value x (q + bits)
   index-taken h = rw (when-read, lt-ltb 0 count-1 some, judged-read, ← width, u-read, ← field, le-leb x count-1 h)
 
-  pub index-refused : count-1 < x → index .read s q ≡ refused 2
+  pub index-refused : count-1 < x → (index count-1) .read s q ≡ refused 2
   index-refused h = rw (when-read, lt-ltb 0 count-1 some, judged-read, ← width, u-read, ← field, lt-leb x count-1 h)
 
 -- a magnitude u(n) is below 2 ^ n

@@ -20,7 +20,7 @@ use Rattle.aps.specs.declared.fields.Stop.{Stop}
 use Rattle.aps.specs.declared.fields.Stop.the-variants as Stop
 use Rattle.aps.proofs.EachLaws.{each-same}
 use Rattle.aps.proofs.ElementLaws.{joined-rows, length-rows}
-use Rattle.aps.proofs.PairLaws.{zipped-there, length-firsts, firsts-zipped, seconds-zipped}
+use Rattle.aps.proofs.PairLaws.{zipped-there, zipped-length, firsts-zipped, seconds-zipped}
 use Rattle.aps.proofs.Steps.{Reading, reading-start, reading-more, reading-done, reading-refused, zipped-set, apart-read}
 use Rattle.aps.proofs.AlfSteps.{sent-test}
 use Rattle.aps.proofs.StopLaws.{after-same, map-stop, ▷-after}
@@ -87,7 +87,7 @@ module _ (clip : Bool) (n : ℕ) (s : List ℕ) (p : ℕ) where
 
   module _ (row : ℕ) (abs : List ℕ) (sign : List Bool) (clips : List ℕ) (q : ℕ) (R : Rows clip n s p row abs sign clips q) where
     pairs-size : length (zipped abs sign) ≡ 48
-    pairs-size = sym (length-firsts (zipped abs sign)) ∙ ap length (firsts-zipped abs sign (R .size-abs ∙ sym (R .size-sign))) ∙ R .size-abs
+    pairs-size = zipped-length abs sign (R .size-sign ∙ sym (R .size-abs)) ∙ R .size-abs
 
     rows-same : length (rowsOf 8 6 (zipped abs sign)) ≡ length (rowsOf 8 6 clips)
     rows-same = length-rows 8 6 (zipped abs sign) ∙ sym (length-rows 8 6 clips)
@@ -96,7 +96,7 @@ module _ (clip : Bool) (n : ℕ) (s : List ℕ) (p : ℕ) where
       stored : set (zipped (rowsOf 8 6 (zipped abs sign)) (rowsOf 8 6 clips)) row (zipped x y, z)
           ≡ zipped (rowsOf 8 6 (zipped (sets abs (6 * row) x) (sets sign (6 * row) y))) (rowsOf 8 6 (sets clips (6 * row) z))
       stored =
-          let w : length (zipped x y) ≡ 6 = sym (length-firsts (zipped x y)) ∙ ap length (firsts-zipped x y (size-x ∙ sym size-y)) ∙ size-x in
+          let w : length (zipped x y) ≡ 6 = zipped-length x y (size-y ∙ sym size-x) ∙ size-x in
           zipped-set (rowsOf 8 6 (zipped abs sign)) (rowsOf 8 6 clips) row (zipped x y) z rows-same
           ∙ rw (
             ← rows-set 8 6 row (zipped abs sign) (zipped x y) h pairs-size w,
