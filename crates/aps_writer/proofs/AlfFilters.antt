@@ -4,7 +4,7 @@ use mathlib.Core.Bool.{Bool, true, false, cond, _&&_, and-false}
 use mathlib.Core.List.{List}
 use Prim.Native.Nat.{ℕ, _+_, _*_, _/_, _≤_, _<_}
 use native.Mathlib.Omega.{arith}
-use borrow.Author.Tests.{ltb-true, ltb-false, lt-ltb, le-ltb, le-leb, lt-leb, eq-eqb}
+use borrow.Author.Tests.{lt-ltb, le-ltb, lt-leb, eq-eqb}
 use lib.Dec.{leb, ltb, eqb}
 use lib.ListN.{length, take, drop, length-drop}
 use lib.Seq.{length-take-le}
@@ -16,9 +16,10 @@ use Rattle.aps.specs.AlfSyntax.{ccCoefficients}
 use Rattle.aps_writer.specs.Writing.{Wrote, unsent}
 use Rattle.aps.specs.declared.fields.Stop.{Stop}
 use Rattle.aps.proofs.CodecLaws.{and-both}
-use Rattle.aps.proofs.AlfSteps.{row-test, sent-test}
+use Rattle.aps.proofs.AlfSteps.{index, row-test, sent-test}
+use Rattle.aps.proofs.PairLaws.{zipped-length}
 use Rattle.aps_writer.proofs.WriteSteps.{wrote-bad, wrote-more, wrote-when, wrote-via, wrote-▷}
-use Rattle.aps_writer.proofs.ArrayWrites.{firstSent, sent-by, none-sent, zipped-length, zipped-drop, zipped-take, apart-wrote}
+use Rattle.aps_writer.proofs.ArrayWrites.{firstSent, sent-by, none-sent, zipped-drop, zipped-take, apart-wrote}
 
 -- ---- one index
 
@@ -27,13 +28,10 @@ pub index-bad : (count-1 bits x : ℕ) {from to : Stop} {out : List ℕ} → cou
 unfolding judged
 index-bad count-1 bits x {from} {to} {out} h e = wrote-bad (judged (λ x. leb x count-1) (u bits)) x bits from to out (rw (lt-leb x count-1 h) (and-false ((u bits) .ok x))) e
 
--- one of the 25 where there is more than one filter
-abbrev pub indexSent : ℕ → ℕ → Codec ℕ
-indexSent count-1 filtIdx = when (ltb 0 count-1) noNumber (judged (λ x. leb x count-1) (u (ceilLog2 (count-1 + 1))))
-
-pub index-sent : (count-1 bits x : ℕ) {from to : Stop} {out out′ : List ℕ} (filtIdx : ℕ) → bits ≡ ceilLog2 (count-1 + 1) → bits ≤ 32 → (count-1 ≡ 0 → ⊥)
-    → Wrote (judged (λ x. leb x count-1) (u bits)) x bits from to out out′ → Wrote (indexSent count-1 filtIdx) x 32 from to out out′
-index-sent count-1 bits x {from} {to} {out} {out′} filtIdx e l h w =
+-- one of the 25 is sent where there is more than one filter
+pub index-sent : (count-1 bits x : ℕ) {from to : Stop} {out out′ : List ℕ} → bits ≡ ceilLog2 (count-1 + 1) → bits ≤ 32 → (count-1 ≡ 0 → ⊥)
+    → Wrote (judged (λ x. leb x count-1) (u bits)) x bits from to out out′ → Wrote (index count-1) x 32 from to out out′
+index-sent count-1 bits x {from} {to} {out} {out′} e l h w =
     let c : ℕ → Codec ℕ = λ n. judged (λ x. leb x count-1) (u n) in
     let v : Wrote (c bits) x 32 from to out out′ = wrote-more (c bits) x bits 32 l w in
     rw (lt-ltb 0 count-1 (omega arith), ← e) (wrote-when (c bits) x 32 noNumber v)
@@ -45,37 +43,32 @@ indexes-none count-1 idx m e f g = rw e (none-sent noNumber (judged (λ x. leb x
 
 -- ---- the coefficients of Cb or Cr
 
--- an entry of the flat arrays is in a row that is sent, or below the count of entries sent
-cc-row-test : (i n : ℕ) → ltb i (7 * (n + 1)) ≡ leb (i / 7) n
-cc-row-test i n = go (ltb i (7 * (n + 1))) refl
-  where
-    go : (b : Bool) → ltb i (7 * (n + 1)) ≡ b → b ≡ leb (i / 7) n
-    go true e = sym (le-leb (i / 7) n (omega (arith, ltb-true i (7 * (n + 1)) e)))
-    go false e = sym (lt-leb (i / 7) n (omega (arith, ltb-false i (7 * (n + 1)) e)))
-
+-- the entries below the count sent are the rows that are sent of Cb or Cr
 pub cc-wrote : (n : ℕ) (a : List ℕ) (b : List Bool) (m : ℕ) {from to : Stop} {out out′ : List ℕ} → length a ≡ 28
     → Wrote (apart (each (length a) (firstSent noSigned (signed (u 3)) (7 * (n + 1))))) (a, b) m from to out out′ → Wrote (ccCoefficients n) (a, b) m from to out out′
 cc-wrote n a b m {from} {to} {out} {out′} e w =
     let same : each 28 (firstSent noSigned (signed (u 3)) (7 * (n + 1))) ≡ each 28 (λ i. when (leb (i / 7) n) noSigned (signed (u 3)))
-    = sent-by noSigned (signed (u 3)) (7 * (n + 1)) (λ i. leb (i / 7) n) 28 λ j h. cc-row-test j n in
+    = sent-by noSigned (signed (u 3)) (7 * (n + 1)) (λ i. leb (i / 7) n) 28 λ j h. row-test 7 j n (omega arith) in
     let v : Wrote (apart (each 28 (firstSent noSigned (signed (u 3)) (7 * (n + 1))))) (a, b) m from to out out′ = rw e at w in
     rw (← same) v
 
 -- ---- the luma filters
 
+-- the entries below the count sent are the rows of luma coefficients that are sent
 luma-coefficients-wrote : (n : ℕ) (a : List ℕ) (b : List Bool) (m : ℕ) {from to : Stop} {out out′ : List ℕ} → length a ≡ 300
     → Wrote (apart (each (length a) (firstSent noSigned coefficient (12 * (n + 1))))) (a, b) m from to out out′ → Wrote (lumaCoefficients n) (a, b) m from to out out′
 luma-coefficients-wrote n a b m {from} {to} {out} {out′} e w =
     let same : each 300 (firstSent noSigned coefficient (12 * (n + 1))) ≡ each 300 (λ i. when (leb (i / 12) n) noSigned coefficient)
-    = sent-by noSigned coefficient (12 * (n + 1)) (λ i. leb (i / 12) n) 300 λ j h. row-test j n in
+    = sent-by noSigned coefficient (12 * (n + 1)) (λ i. leb (i / 12) n) 300 λ j h. row-test 12 j n (omega arith) in
     let v : Wrote (apart (each 300 (firstSent noSigned coefficient (12 * (n + 1))))) (a, b) m from to out out′ = rw e at w in
     rw (← same) v
 
+-- the entries below the count sent are the rows of luma clips that are sent
 luma-clips-wrote : (clip : Bool) (n : ℕ) (k : List ℕ) (m : ℕ) {from to : Stop} {out out′ : List ℕ} → length k ≡ 300
     → Wrote (each (length k) (firstSent noNumber (u 2) (cond clip (12 * (n + 1)) 0))) k m from to out out′ → Wrote (lumaClips clip n) k m from to out out′
 luma-clips-wrote clip n k m {from} {to} {out} {out′} e w =
     let same : each 300 (firstSent noNumber (u 2) (cond clip (12 * (n + 1)) 0)) ≡ each 300 (λ i. when (clip && leb (i / 12) n) noNumber (u 2))
-    = sent-by noNumber (u 2) (cond clip (12 * (n + 1)) 0) (λ i. clip && leb (i / 12) n) 300 λ j h. sent-test clip j (12 * (n + 1)) ∙ ap (λ (t : Bool). clip && t) (row-test j n) in
+    = sent-by noNumber (u 2) (cond clip (12 * (n + 1)) 0) (λ i. clip && leb (i / 12) n) 300 λ j h. sent-test clip j (12 * (n + 1)) ∙ ap (λ (t : Bool). clip && t) (row-test 12 j n (omega arith)) in
     let v : Wrote (each 300 (firstSent noNumber (u 2) (cond clip (12 * (n + 1)) 0))) k m from to out out′ = rw e at w in
     rw (← same) v
 
@@ -96,6 +89,7 @@ luma-filters-wrote clip n idx a b k sent {from} {mid} {mid′} {to} {out} {out�
 -- ---- the alternatives of the chroma filters
 
 module _ {A : Type 0} where
+  -- a row of 48 entries in rows of 6 has 6
   pub length-row : (w row : ℕ) (l : List A) → w ≡ 6 → row < 8 → length l ≡ 48 → length (take w (drop (6 * row) l)) ≡ 6
   length-row w row l six h e = rw six (length-take-le 6 (drop (6 * row) l) (omega (arith, length-drop (6 * row) l)))
 
@@ -104,6 +98,7 @@ six-test : (t : Bool) (j : ℕ) → j < 6 → ltb j (cond t 6 0) ≡ t
 six-test true j h = lt-ltb j 6 h
 six-test false j h = le-ltb j 0 (omega arith)
 
+-- six coefficients and six clips, or neither, are an alternative
 alternative-wrote : (clip : Bool) (count-1 row : ℕ) (a : List ℕ) (b : List Bool) (k : List ℕ) (n sent : ℕ) {from mid to : Stop} {out out₁ out₂ : List ℕ}
     → length a ≡ 6 → length b ≡ 6 → length k ≡ 6 → n ≡ cond (leb row count-1) 6 0 → n ≤ 6 → sent ≡ cond clip n 0 → sent ≤ n
     → Wrote (apart (each (length a) (firstSent noSigned coefficient n))) (a, b) (16 * n) from mid out out₁

@@ -18,6 +18,7 @@ use Rattle.aps_writer.specs.Writing.{writes, Wrote, unsent}
 use Rattle.aps.specs.declared.fields.Stop.{Stop}
 use Rattle.aps.proofs.EachLaws.{each-same}
 use Rattle.aps.proofs.ElementLaws.{length-rows}
+use Rattle.aps.proofs.PairLaws.{zipped-length}
 use Rattle.aps.proofs.StopLaws.{after-same}
 use Rattle.aps_writer.proofs.WriteSteps.{writes-none, writes-nil, writes-cons, writes-via, wrote-as, wrote-when, wrote-via, Writing, writing-start, writing-more, writing-done}
 use Rattle.aps_writer.proofs.SentWrites.{unsent-both, unsent-answer, unsent-spans, spans-here}
@@ -50,6 +51,7 @@ one-fails (t ∷ ts) (suc i) e = rw (one-fails ts i e) (and-false t)
 -- ---- an array of which the first n entries are sent
 
 module _ {A : Type 0} (d : Inferred A) (c : Codec A) (n : ℕ) where
+  -- entry i is sent where it is one of the first n
   abbrev pub firstSent : ℕ → Codec A
   firstSent i = when (ltb i n) d c
 
@@ -113,11 +115,6 @@ none-sent d c N xs {from} {to} {out} m e f =
 -- ---- two arrays beside each other
 
 module _ {A B : Type 0} where
-  pub zipped-length : (a : List A) (b : List B) → length b ≡ length a → length (zipped a b) ≡ length a
-  zipped-length [] b e = refl
-  zipped-length (x ∷ a) [] e = absurd (omega arith)
-  zipped-length (x ∷ a) (y ∷ b) e = ap suc (zipped-length a b (omega arith))
-
   -- pairs are dropped as the two arrays are
   pub zipped-drop : (n : ℕ) (a : List A) (b : List B) → length b ≡ length a → drop n (zipped a b) ≡ zipped (drop n a) (drop n b)
   zipped-drop zero a b e = refl

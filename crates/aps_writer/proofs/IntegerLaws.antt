@@ -35,12 +35,14 @@ neg-abs (negsuc n) = refl
 
 -- `v as i64 - w as i64` of two i32 values is their difference
 module _ (v w : ℤ) (f : SFits w32 v) (g : SFits w32 w) where
+  -- the difference of two i32 values is an i64
   pub difference-fits : SFits w64 (v -ℤ w)
   difference-fits =
       record {
         sfits = omega (arith, mag-abs (v -ℤ w), add-abs v (negℤ w), neg-abs w, natAbs-le v {H = 2147483648} (f .sfits), natAbs-le w {H = 2147483648} (g .sfits));
       }
 
+  -- and it is what is computed
   pub difference-is : toZ w64 (ofZ w64 (toZ w64 (ofZ w64 (toZ w32 (ofZ w32 v))) -ℤ toZ w64 (ofZ w64 (toZ w32 (ofZ w32 w))))) ≡ v -ℤ w
   difference-is = rw (wide-is v f, wide-is w g) (toZ-ofZ difference-fits)
 

@@ -8,6 +8,7 @@ pub mod LmcsWrites
 pub mod IntegerLaws
 pub mod ScalingWrites
 pub mod RbspWrites
+pub mod UnitWrites
 pub mod RoundTrips
 pub mod InferredLaws
 pub mod Marked

@@ -20,6 +20,7 @@ use Rattle.aps_writer.proofs.ArrayWrites.{wrote-apart}
 
 -- ---- a magnitude and its sign that are not sent
 
+-- a magnitude and its sign that are not sent are both 0, or they are refused
 pub signed-none : (n abs : ℕ) (sign : Bool) (from mid to : Stop) (out : List ℕ) → mid ≡ unsent from (eqb abs 0) → to ≡ unsent mid (not sign)
     → Wrote (when false noSigned (signed (u n))) (abs, sign) (n + 1) from to out out
 signed-none n abs sign from mid to out e f =
@@ -32,6 +33,7 @@ ue-wrote : (most v m : ℕ) {from to : Stop} {out out′ : List ℕ} → v ≤ m
 unfolding ueTo
 ue-wrote most v m {out = out} l = wrote-as (judged (λ v. leb v most) ue) v m ue v λ p. writes-judged (λ v. leb v most) ue v out p ∙ rw (le-leb v most l)
 
+-- three values in range are the head
 pub head-wrote : (min max prec : ℕ) {a b c d : Stop} {o o₁ o₂ o₃ : List ℕ} → inRange (min, (max, prec)) ≡ true
     → Wrote (ueTo 15) min 9 a b o o₁ → Wrote (ueTo 15) max 9 b c o₁ o₂ → Wrote (ueTo 14) prec 7 c d o₂ o₃
     → Wrote lmcsHead (min, (max, prec)) 25 a d o o₃
@@ -50,11 +52,13 @@ codewords-wrote min max prec abs sign e w = wrote-apart (each 16 (bin min max pr
 
 -- ---- the whole
 
+-- a set whose head is out of range is not taken
 pub lmcs-out-of-range : (chroma : Bool) (d : VvcLmcsData)
     → inRange (d .«lmcs_min_bin_idx», (d .«lmcs_delta_max_bin_idx», d .«lmcs_delta_cw_prec_minus1»)) ≡ false → (lmcs chroma) .ok d ≡ false
 unfolding lmcs via fromLmcs lmcsSyntax _▷_ judged
 lmcs-out-of-range chroma d e = rw (e, and-false (ue .ok (d .«lmcs_min_bin_idx») && (ue .ok (d .«lmcs_delta_max_bin_idx») && ue .ok (d .«lmcs_delta_cw_prec_minus1»))))
 
+-- the head, the codewords and the chroma delta are the whole
 pub lmcs-wrote : (chroma : Bool) (d : VvcLmcsData) {a b c e : Stop} {o o₁ o₂ o₃ : List ℕ}
     → Wrote lmcsHead (d .«lmcs_min_bin_idx», (d .«lmcs_delta_max_bin_idx», d .«lmcs_delta_cw_prec_minus1»)) 25 a b o o₁
     → Wrote (lmcsCodewords (d .«lmcs_min_bin_idx», (d .«lmcs_delta_max_bin_idx», d .«lmcs_delta_cw_prec_minus1»))) (d .«lmcs_delta_abs_cw», d .«lmcs_delta_sign_cw_flag») 256 b c o₁ o₂

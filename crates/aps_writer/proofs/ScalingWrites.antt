@@ -43,15 +43,18 @@ module _ (id i : ℕ) (prev v : ℤ) {from to : Stop} where
   pub step-repeated : {out : List ℕ} → skipped id i ≡ true → to ≡ unsent from (eqZ v prev) → Wrote (stepAt id i prev) v 17 from to out out
   step-repeated k e = when-unsent (just prev) (step prev) v 17 (is-not k) e
 
+  -- one that is not skipped is sent as the difference to the sum
   pub step-sent : {out out′ : List ℕ} → skipped id i ≡ false → Wrote se8 (v -ℤ prev) 17 from to out out′ → Wrote (stepAt id i prev) v 17 from to out out′
   unfolding step
   step-sent k w = when-sent (just prev) (step prev) v 17 (not-is k) (wrote-via (λ d. d +ℤ prev) (λ v. v -ℤ prev) (λ v. true) se8 v 17 refl w)
 
+  -- a difference that is not in -128..127 is refused
   pub step-bad : {out : List ℕ} → skipped id i ≡ false → se8 .ok (v -ℤ prev) ≡ false → to ≡ unsent from false → Wrote (stepAt id i prev) v 17 from to out out
   step-bad {out} k o e = step-sent k (wrote-bad se8 (v -ℤ prev) 17 from to out o e)
 
 -- ---- the delta
 
+-- the largest delta of an id is at most 19
 maxIdDelta-few : (id : ℕ) → id < 28 → maxIdDelta id ≤ 19
 unfolding maxIdDelta
 maxIdDelta-few id h = go (ltb id 2) (ltb id 8) refl refl
@@ -61,9 +64,11 @@ maxIdDelta-few id h = go (ltb id 2) (ltb id 8) refl refl
     go false true e f = omega (arith, ltb-true id 8 f)
     go false false e f = omega arith
 
+-- so it is below 2 ^ 32 - 1
 pub maxIdDelta-word : (id : ℕ) → id < 28 → maxIdDelta id < 4294967295
 maxIdDelta-word id h = omega (arith, maxIdDelta-few id h)
 
+-- and has at most 9 bits
 pub delta-bits : (id : ℕ) → id < 28 → 2 * ueZeros (maxIdDelta id) + 1 ≤ 9
 unfolding ueZeros leadingZeros
 delta-bits id h = let z : ueZeros (maxIdDelta id) ≤ 4 = zeros-mono (maxIdDelta id) 19 (maxIdDelta-few id h) (lit< tt) in omega arith
@@ -71,10 +76,12 @@ delta-bits id h = let z : ueZeros (maxIdDelta id) ≤ 4 = zeros-mono (maxIdDelta
 -- ---- the sums of a list
 
 module _ (id i : ℕ) (prev : ℤ) (out : List ℕ) (p : ℕ) where
+  -- no sum is left
   writes-none-left : writes (sums id i 0 prev) [] out p ≡ value out p
   unfolding sums
   writes-none-left = writes-nil (λ j. step prev) 0 out p
 
+  -- a sum, then those after it
   writes-sums : (n : ℕ) (v : ℤ) (vs : List ℤ)
       → writes (sums id i (suc n) prev) (v ∷ vs) out p ≡ (writes (stepAt id i prev) v out p then λ o q. writes (sums id (suc i) n v) vs o q)
   unfolding sums
@@ -89,10 +96,12 @@ pub record Stepped (id n : ℕ) (dc : ℤ) (vs : List ℤ) (from : Stop) (out : 
   pub count : i ≤ n
 
 module _ (id n : ℕ) (dc : ℤ) (vs : List ℤ) (from : Stop) (out : List ℕ) where
+  -- none is written at the start
   pub stepped-start : Stepped id n dc vs from out 0 dc from out
   stepped-start = record { left = rw (sub-zero n); near = spans-here from (17 * 0); count = omega arith }
 
   module _ (i : ℕ) (prev : ℤ) (at : Stop) (now : List ℕ) (S : Stepped id n dc vs from out i prev at now) where
+    -- one sum more is written
     pub stepped-more : (v : ℤ) (at′ : Stop) (now′ : List ℕ) → i < n → drop i vs ≡ v ∷ drop (suc i) vs → Wrote (stepAt id i prev) v 17 at at′ now now′
         → Stepped id n dc vs from out (i + 1) v at′ now′
     stepped-more v at′ now′ h e w =
@@ -107,6 +116,7 @@ module _ (id n : ℕ) (dc : ℤ) (vs : List ℤ) (from : Stop) (out : List ℕ) 
           count = omega arith;
         }
 
+    -- all are written
     pub stepped-done : n ≤ i → n ≤ 64 → length vs ≡ n → Wrote (sums id 0 n dc) vs 1088 from at out now
     stepped-done h k e =
         let m : n - i ≡ 0 = omega arith in
@@ -121,12 +131,15 @@ abbrev pub row : ℕ → List ℤ → List ℤ
 row id list = take (entries id) (take 64 (drop (id * 64) list))
 
 module _ (id : ℕ) (list : List ℤ) (known : id < 28) (size : length list ≡ 1792) where
+  -- an id has 64 places in the flat array
   whole-row : length (take 64 (drop (id * 64) list)) ≡ 64
   whole-row = length-take-le 64 (drop (id * 64) list) (omega (arith, length-drop (id * 64) list))
 
+  -- its list has as many entries as its matrix
   pub length-row : length (row id list) ≡ entries id
   length-row = length-take-le (entries id) (take 64 (drop (id * 64) list)) (omega (arith, entries-le id, whole-row))
 
+  -- entry i of its list, then those after it
   pub row-cons : (i : ℕ) → i < entries id → drop i (row id list) ≡ getD list (id * 64 + i) (pos 0) ∷ drop (suc i) (row id list)
   row-cons i h =
       let e : getD (row id list) i (pos 0) ≡ getD list (id * 64 + i) (pos 0)
@@ -148,6 +161,7 @@ module _ (id : ℕ) {copy : Bool} (pred : Bool) (delta : ℕ) (dc : ℤ) (whole 
       (wrote-▷ (deltaAt id true) _ delta (pos 0, []) 9 0 w
       (wrote-none (noPair (just (pos 0)) noEntries) (coefficients id) (pos 0, []) to to out₂ (unsent-still to))))))
 
+  -- of an id that is no copy all four parts are sent
   pub entry-listed : {c : Stop} {out₃ out₄ : List ℕ} → copy ≡ false → Wrote flag pred 1 a b out₁ out₂ → Wrote (deltaAt id pred) delta 9 b c out₂ out₃
       → Wrote (coefficients id) (cond (ltb 13 id) dc (pos 0), take (entries id) whole) 1105 c to out₃ out₄
       → Wrote (entrySyntax id) (looked true id copy pred delta dc whole) 1116 from to out out₄
@@ -160,15 +174,18 @@ module _ (id : ℕ) {copy : Bool} (pred : Bool) (delta : ℕ) (dc : ℤ) (whole 
       (wrote-▷ (deltaAt id pred) _ delta list 9 1105 w
       (wrote-when (coefficients id) list 1105 (noPair (just (pos 0)) noEntries) x))))
 
+-- with chroma each id is coded
 all-coded : (id : ℕ) → idCoded true id ≡ true
 unfolding idCoded
 all-coded id = refl
 
 module _ (chroma : Bool) (id : ℕ) (copy pred : Bool) (delta : ℕ) (dc : ℤ) (whole : List ℤ) where
+  -- of a coded id the same is looked at with chroma and without
   looked-coded : idCoded chroma id ≡ true → looked true id copy pred delta dc whole ≡ looked chroma id copy pred delta dc whole
   unfolding looked
   looked-coded e = rw (e, all-coded id)
 
+  -- a coded id is sent
   pub id-sent : {from to : Stop} {out out′ : List ℕ} → idCoded chroma id ≡ true → Wrote (entrySyntax id) (looked true id copy pred delta dc whole) 1116 from to out out′
       → Wrote (idAt chroma id) (looked chroma id copy pred delta dc whole) 1116 from to out out′
   id-sent e w = when-sent noEntry (entrySyntax id) (looked chroma id copy pred delta dc whole) 1116 e (rw (looked-coded e) at w)
@@ -192,6 +209,7 @@ pub record Listed (chroma : Bool) (d : VvcScalingListData) (from : Stop) (out : 
   pub count : id ≤ 28
 
 module _ (chroma : Bool) (d : VvcScalingListData) (from : Stop) (out : List ℕ) where
+  -- no id is written at the start
   pub listed-start : Listed chroma d from out 0 from out
   listed-start =
       record {
@@ -207,6 +225,7 @@ module _ (chroma : Bool) (d : VvcScalingListData) (from : Stop) (out : List ℕ)
       rw (← look-at chroma d id e h) (drop-cons (look chroma d) id e (omega (arith, length-look chroma d)))
 
   module _ (id : ℕ) (at : Stop) (now : List ℕ) (L : Listed chroma d from out id at now) where
+    -- one id more is written
     pub listed-more : (at′ : Stop) (now′ : List ℕ) → id < 28 → length (d .«copy_mode_flag») ≡ 28
         → Wrote (idAt chroma id) (looked chroma id (getD (d .«copy_mode_flag») id false) (getD (d .«pred_mode_flag») id false) (getD (d .«pred_id_delta») id 0)
         (getD (d .«dc_coef») (id - 14) (pos 0)) (take 64 (drop (id * 64) (d .«scaling_list»)))) 1116 at at′ now now′
@@ -220,6 +239,7 @@ module _ (chroma : Bool) (d : VvcScalingListData) (from : Stop) (out : List ℕ)
           count = omega arith;
         }
 
+    -- all are written
     pub listed-done : 28 ≤ id → Wrote (scalingSyntax chroma) (look chroma d) 31248 from at out now
     unfolding scalingSyntax
     listed-done h =

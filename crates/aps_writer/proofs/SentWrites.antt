@@ -40,6 +40,7 @@ unsent-stops (Stop.End p) true m s = s
 unsent-stops (Stop.End p) false m s = tt
 unsent-stops (Stop.Refused e) b m s = tt
 
+-- nor is it further from where a run started
 pub unsent-spans : (from at : Stop) (b : Bool) (m : ℕ) → Spans from at m → Spans from (unsent at b) m
 unsent-spans from at b m h j s = unsent-stops at b (j + m) (h j s)
 

@@ -27,14 +27,17 @@ use Rattle.aps.proofs.StopLaws.{after-same, after-end}
 -- ---- how each piece is written
 
 module _ {A : Type 0} where
+  -- a value that is taken is put as its bits
   pub writes-taken : (c : Codec A) (a : A) (out : List ℕ) (p : ℕ) → c .ok a ≡ true → writes c a out p ≡ value (putBits out p (c .emit a)) (p + length (c .emit a))
   unfolding writes
   writes-taken c a out p o = rw o
 
+  -- a value that is not taken is refused
   pub writes-not : (c : Codec A) (a : A) (out : List ℕ) (p : ℕ) → c .ok a ≡ false → writes c a out p ≡ refused 2
   unfolding writes
   writes-not c a out p o = rw o
 
+  -- one that is sent is written as it is
   pub writes-when : (d : Inferred A) (c : Codec A) (a : A) (out : List ℕ) (p : ℕ) → writes (when true d c) a out p ≡ writes c a out p
   unfolding writes when
   writes-when d c a out p = refl
@@ -44,6 +47,7 @@ module _ {A : Type 0} where
   unfolding writes when putBits
   writes-none d c a out p = rw (add-zero p)
 
+  -- one that is judged is written where it passes the test
   pub writes-judged : (test : A → Bool) (c : Codec A) (a : A) (out : List ℕ) (p : ℕ) → writes (judged test c) a out p ≡ cond (test a) (writes c a out p) (refused 2)
   unfolding writes judged
   writes-judged test c a out p = go (c .ok a) (test a)
@@ -55,12 +59,14 @@ module _ {A : Type 0} where
       go false true = refl
       go false false = refl
 
+  -- one that is provided for is written where the condition holds
   pub writes-provided : (b : Bool) (c : Codec A) (a : A) (out : List ℕ) (p : ℕ) → writes (provided b c) a out p ≡ cond b (writes c a out p) (refused 2)
   unfolding writes provided
   writes-provided true c a out p = refl
   writes-provided false c a out p = refl
 
 module _ {A B : Type 0} where
+  -- one in another shape is written as the value of that shape
   pub writes-via : (to : A → B) (from : B → A) (test : B → Bool) (c : Codec A) (b : B) (out : List ℕ) (p : ℕ)
       → writes (via to from test c) b out p ≡ cond (test b) (writes c (from b) out p) (refused 2)
   unfolding writes via
@@ -75,6 +81,7 @@ module _ {A B : Type 0} where
       go false true = refl
       go false false = refl
 
+  -- two values are written one after the other
   pub writes-▷ : (c : Codec A) (k : A → Codec B) (a : A) (b : B) (out : List ℕ) (p : ℕ)
       → writes (c ▷ k) (a, b) out p ≡ (writes c a out p then λ o q. writes (k a) b o q)
   unfolding writes _▷_
@@ -94,10 +101,12 @@ module _ {A B : Type 0} where
 
 -- the entries of an array one after another
 module _ {A : Type 0} (k : ℕ → Codec A) where
+  -- no entries are nothing to write
   pub writes-nil : (i : ℕ) (out : List ℕ) (p : ℕ) → writes (eachFrom i 0 k) [] out p ≡ value out p
   unfolding writes eachFrom putBits
   writes-nil i out p = rw (add-zero p)
 
+  -- an entry is written, then those after it
   pub writes-cons : (i n : ℕ) (x : A) (xs : List A) (out : List ℕ) (p : ℕ)
       → writes (eachFrom i (suc n) k) (x ∷ xs) out p ≡ (writes (k i) x out p then λ o q. writes (eachFrom (suc i) n k) xs o q)
   unfolding writes eachFrom
@@ -130,9 +139,11 @@ after-then (Stop.End p) (Stop.Refused n) a f g e = rw (← e)
 after-then (Stop.Refused n) (Stop.End q) a f g e = absurd (value-refused e)
 after-then (Stop.Refused n) (Stop.Refused m) a f g e = let h : number m ≡ number n = cc in ap refused (sym h)
 
+-- the bits of two runs add up
 pub spans-then : (from mid to : Stop) (m n : ℕ) → Spans from mid m → Spans mid to n → Spans from to (m + n)
 spans-then from mid to m n h k l s = rw (sym (add-assoc l m n)) (k (l + m) (h l s))
 
+-- a bound on the bits of a run may be larger
 pub spans-more : (from to : Stop) (m n : ℕ) → m ≤ n → Spans from to m → Spans from to n
 spans-more from (Stop.End q) m n l h j s = let d = h j s in omega arith
 spans-more from (Stop.Refused e) m n l h j s = tt
@@ -156,6 +167,7 @@ module _ {A : Type 0} (c : Codec A) (a : A) (m : ℕ) where
       }
 
   module _ {from to : Stop} {out out′ : List ℕ} where
+    -- a larger bound holds too
     pub wrote-more : (n : ℕ) → m ≤ n → Wrote c a m from to out out′ → Wrote c a n from to out out′
     wrote-more n l w = record { answer = w .answer; within = spans-more from to m n l (w .within) }
 
@@ -171,6 +183,7 @@ module _ {A : Type 0} (c : Codec A) (a : A) (m : ℕ) where
     pub wrote-judged : (test : A → Bool) → test a ≡ true → Wrote c a m from to out out′ → Wrote (judged test c) a m from to out out′
     wrote-judged test t = wrote-as (judged test c) a λ p. sym (writes-judged test c a out p ∙ rw t)
 
+    -- one whose condition holds
     pub wrote-provided : (b : Bool) → b ≡ true → Wrote c a m from to out out′ → Wrote (provided b c) a m from to out out′
     wrote-provided b t = wrote-as (provided b c) a λ p. sym (writes-provided b c a out p ∙ rw t)
 
@@ -226,9 +239,11 @@ module _ {A : Type 0} (k : ℕ → Codec A) (N : ℕ) (xs : List A) (from : Stop
   abbrev pub Writing : ℕ → Stop → List ℕ → Type 0
   Writing i at now = after at (writes (eachFrom i (N - i) k) (drop i xs) now) ≡ after from (writes (each N k) xs out)
 
+  -- none is written at the start
   pub writing-start : Writing 0 from out
   writing-start = rw (sub-zero N)
 
+  -- one entry more is written
   pub writing-more : (i : ℕ) (at at′ : Stop) (now now′ : List ℕ) (x : A) (m : ℕ) → i < N → drop i xs ≡ x ∷ drop (suc i) xs
       → Writing i at now → Wrote (k i) x m at at′ now now′ → Writing (suc i) at′ now′
   writing-more i at at′ now now′ x m l e w v =
@@ -237,6 +252,7 @@ module _ {A : Type 0} (k : ℕ → Codec A) (N : ℕ) (xs : List A) (from : Stop
       ∙ sym (after-same at _ _ (λ p. writes-cons k i (N - suc i) x (drop (suc i) xs) now p))
       ∙ (rw (s, e) at w)
 
+  -- all are written
   pub writing-done : (at : Stop) (now : List ℕ) → drop N xs ≡ [] → Writing N at now → outcomeStop at now ≡ after from (writes (each N k) xs out)
   writing-done at now e w =
       let s : N - N ≡ 0 = omega arith in
@@ -246,6 +262,7 @@ module _ {A : Type 0} (k : ℕ → Codec A) (N : ℕ) (xs : List A) (from : Stop
 
 module _ {A : Type 0} (c : Codec A) (a : A) (m : ℕ) {from : Stop} {r : Written} (p : ℕ) (out out′ : List ℕ) (start : from ≡ Stop.End p) (ok : c .ok a ≡ true)
     (most : length (c .emit a) ≤ m) (wrote : outcomeW r out′ ≡ value (putBits out p (c .emit a)) (p + length (c .emit a))) where
+  -- a field that was written there is written here
   pub wrote-field : (q : ℕ) → r ≡ Written.To q → Wrote c a m from (Stop.End q) out out′
   wrote-field q e =
       let f : value out′ q ≡ value (putBits out p (c .emit a)) (p + length (c .emit a)) = rw e at wrote in
@@ -253,6 +270,7 @@ module _ {A : Type 0} (c : Codec A) (a : A) (m : ℕ) {from : Stop} {r : Written
       let y : q ≡ p + length (c .emit a) = cc in
       wrote-taken c a m p q out out′ start ok x y most
 
+  -- and it is not refused there
   pub field-wrote : (why : Refusal) {T : Type 0} → r ≡ Written.Refused why → T
   field-wrote why e =
       let f : refused (number why) ≡ value (putBits out p (c .emit a)) (p + length (c .emit a)) = rw e at wrote in

@@ -10,9 +10,10 @@ use Rattle.aps.specs.Elements.{zipped}
 use Rattle.aps.specs.Stops.{Spans}
 use Rattle.aps.proofs.LmcsSteps.{in-range, bin}
 use Rattle.aps.proofs.StopLaws.{stops-more}
+use Rattle.aps.proofs.PairLaws.{zipped-length}
 use Rattle.aps_writer.proofs.WriteSteps.{spans-then, spans-more, Writing, writing-start, writing-more}
 use Rattle.aps_writer.proofs.SentWrites.{spans-here}
-use Rattle.aps_writer.proofs.ArrayWrites.{zipped-length, zipped-step, wrote-each}
+use Rattle.aps_writer.proofs.ArrayWrites.{zipped-step, wrote-each}
 use Rattle.aps_writer.proofs.LmcsWrites.{codewords-wrote}
 use Rattle.aps_writer.proofs.lmcs.put_codewords.Statement.{statement}
 use Rattle.aps_writer.proofs.lmcs.put_codewords.Tie as tie
