@@ -26,6 +26,20 @@ use Rattle.aps.proofs.StopLaws.{after-same, after-end}
 
 -- ---- how each piece is written
 
+-- two tests at once are one after the other
+cond-both : {A : Type 0} (x y : Bool) (a b : A) → cond (x && y) a b ≡ cond y (cond x a b) b
+cond-both true true a b = refl
+cond-both true false a b = refl
+cond-both false true a b = refl
+cond-both false false a b = refl
+
+-- bits put at once, where both parts are taken, are put one part after the other
+puts-both : (out : List ℕ) (p : ℕ) (e f : List ℕ) (x y : Bool) → cond (x && y) (value (putBits out p (e ++ f)) (p + length (e ++ f))) (refused 2)
+    ≡ (cond x (value (putBits out p e) (p + length e)) (refused 2) then λ o q. cond y (value (putBits o q f) (q + length f)) (refused 2))
+puts-both out p e f true true = rw (puts-append out p e f, length-append e f, add-assoc p (length e) (length f))
+puts-both out p e f true false = refl
+puts-both out p e f false y = refl
+
 module _ {A : Type 0} where
   -- a value that is taken is put as its bits
   pub writes-taken : (c : Codec A) (a : A) (out : List ℕ) (p : ℕ) → c .ok a ≡ true → writes c a out p ≡ value (putBits out p (c .emit a)) (p + length (c .emit a))
@@ -50,14 +64,7 @@ module _ {A : Type 0} where
   -- one that is judged is written where it passes the test
   pub writes-judged : (test : A → Bool) (c : Codec A) (a : A) (out : List ℕ) (p : ℕ) → writes (judged test c) a out p ≡ cond (test a) (writes c a out p) (refused 2)
   unfolding writes judged
-  writes-judged test c a out p = go (c .ok a) (test a)
-    where
-      go : (x y : Bool) → cond (x && y) (value (putBits out p (c .emit a)) (p + length (c .emit a))) (refused 2)
-          ≡ cond y (cond x (value (putBits out p (c .emit a)) (p + length (c .emit a))) (refused 2)) (refused 2)
-      go true true = refl
-      go true false = refl
-      go false true = refl
-      go false false = refl
+  writes-judged test c a out p = cond-both (c .ok a) (test a) _ (refused 2)
 
   -- one that is provided for is written where the condition holds
   pub writes-provided : (b : Bool) (c : Codec A) (a : A) (out : List ℕ) (p : ℕ) → writes (provided b c) a out p ≡ cond b (writes c a out p) (refused 2)
@@ -70,34 +77,13 @@ module _ {A B : Type 0} where
   pub writes-via : (to : A → B) (from : B → A) (test : B → Bool) (c : Codec A) (b : B) (out : List ℕ) (p : ℕ)
       → writes (via to from test c) b out p ≡ cond (test b) (writes c (from b) out p) (refused 2)
   unfolding writes via
-  writes-via to from test c b out p = go (c .ok (from b)) (test b)
-    where
-      e : List ℕ
-      e = c .emit (from b)
-
-      go : (x y : Bool) → cond (x && y) (value (putBits out p e) (p + length e)) (refused 2) ≡ cond y (cond x (value (putBits out p e) (p + length e)) (refused 2)) (refused 2)
-      go true true = refl
-      go true false = refl
-      go false true = refl
-      go false false = refl
+  writes-via to from test c b out p = cond-both (c .ok (from b)) (test b) _ (refused 2)
 
   -- two values are written one after the other
   pub writes-▷ : (c : Codec A) (k : A → Codec B) (a : A) (b : B) (out : List ℕ) (p : ℕ)
       → writes (c ▷ k) (a, b) out p ≡ (writes c a out p then λ o q. writes (k a) b o q)
   unfolding writes _▷_
-  writes-▷ c k a b out p = go (c .ok a) ((k a) .ok b)
-    where
-      e : List ℕ
-      e = c .emit a
-
-      f : List ℕ
-      f = (k a) .emit b
-
-      go : (x y : Bool) → cond (x && y) (value (putBits out p (e ++ f)) (p + length (e ++ f))) (refused 2)
-          ≡ (cond x (value (putBits out p e) (p + length e)) (refused 2) then λ o q. cond y (value (putBits o q f) (q + length f)) (refused 2))
-      go true true = rw (puts-append out p e f, length-append e f, add-assoc p (length e) (length f))
-      go true false = refl
-      go false y = refl
+  writes-▷ c k a b out p = puts-both out p (c .emit a) ((k a) .emit b) (c .ok a) ((k a) .ok b)
 
 -- the entries of an array one after another
 module _ {A : Type 0} (k : ℕ → Codec A) where
@@ -110,19 +96,7 @@ module _ {A : Type 0} (k : ℕ → Codec A) where
   pub writes-cons : (i n : ℕ) (x : A) (xs : List A) (out : List ℕ) (p : ℕ)
       → writes (eachFrom i (suc n) k) (x ∷ xs) out p ≡ (writes (k i) x out p then λ o q. writes (eachFrom (suc i) n k) xs o q)
   unfolding writes eachFrom
-  writes-cons i n x xs out p = go ((k i) .ok x) ((eachFrom (suc i) n k) .ok xs)
-    where
-      e : List ℕ
-      e = (k i) .emit x
-
-      f : List ℕ
-      f = (eachFrom (suc i) n k) .emit xs
-
-      go : (x y : Bool) → cond (x && y) (value (putBits out p (e ++ f)) (p + length (e ++ f))) (refused 2)
-          ≡ (cond x (value (putBits out p e) (p + length e)) (refused 2) then λ o q. cond y (value (putBits o q f) (q + length f)) (refused 2))
-      go true true = rw (puts-append out p e f, length-append e f, add-assoc p (length e) (length f))
-      go true false = refl
-      go false y = refl
+  writes-cons i n x xs out p = puts-both out p ((k i) .emit x) ((eachFrom (suc i) n k) .emit xs) ((k i) .ok x) ((eachFrom (suc i) n k) .ok xs)
 
 -- ---- runs
 
