@@ -71,7 +71,7 @@ module _ {A : Type 0} (d : Inferred A) (c : Codec A) (n : ℕ) where
   module _ (N : ℕ) (xs : List A) (from : Stop) (out : List ℕ) where
     -- one entry more is sent
     pub sent-more : (i : ℕ) (at at′ : Stop) (now now′ : List ℕ) (x : A) (m : ℕ) → i < n → n ≤ N → drop i xs ≡ x ∷ drop (suc i) xs
-        → Writing firstSent N xs from out i at now → Wrote c x m at at′ now now′ → Writing firstSent N xs from out (suc i) at′ now′
+        → Writing firstSent N xs from out i at now → Wrote c x m at at′ now now′ → Writing firstSent N xs from out (i + 1) at′ now′
     sent-more i at at′ now now′ x m h l e w v =
         writing-more firstSent N xs from out i at at′ now now′ x m (omega arith) e w (rw (lt-ltb i n h) (wrote-when c x m d v))
 

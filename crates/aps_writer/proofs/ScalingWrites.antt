@@ -26,7 +26,7 @@ use Rattle.aps.proofs.ScalingLaws.{entries-le, noEntry-is}
 use Rattle.aps.proofs.StopLaws.{after-same}
 use Rattle.aps.proofs.KeepLaws.{lookedAt, look-at, length-look}
 use Rattle.aps.proofs.ScalingSteps.{se8}
-use Rattle.aps_writer.proofs.WriteSteps.{writes-via, writes-▷, writes-nil, after-then, spans-then, spans-more, wrote-more, wrote-when, wrote-none, wrote-via, wrote-bad, wrote-▷, Writing, writing-start, writing-more, stop-value}
+use Rattle.aps_writer.proofs.WriteSteps.{writes-via, writes-▷, writes-nil, after-then, spans-step, spans-more, wrote-more, wrote-when, wrote-none, wrote-via, wrote-bad, wrote-▷, Writing, writing-start, writing-more, stop-value}
 use Rattle.aps_writer.proofs.SentWrites.{unsent-still, spans-here, when-sent, when-unsent}
 use Rattle.aps_writer.proofs.ArrayWrites.{wrote-each}
 
@@ -112,7 +112,7 @@ module _ (id n : ℕ) (dc : ℤ) (vs : List ℤ) (from : Stop) (out : List ℕ) 
         ∙ (rw (m, e) at (S .left)) in
         record {
           left = rw (add-one i) f;
-          near = spans-more from at′ (17 * i + 17) (17 * (i + 1)) (omega arith) (spans-then from at at′ (17 * i) 17 (S .near) (w .within));
+          near = spans-step from at at′ 17 i (S .near) (w .within);
           count = omega arith;
         }
 
@@ -234,8 +234,8 @@ module _ (chroma : Bool) (d : VvcScalingListData) (from : Stop) (out : List ℕ)
         let copy : getD (d .«copy_mode_flag») id true ≡ getD (d .«copy_mode_flag») id false = getD-any (d .«copy_mode_flag») id true false (omega arith) in
         let w : Wrote (idAt chroma id) (lookedAt chroma d id) 1116 at at′ now now′ = rw copy v in
         record {
-          left = rw (add-one id) (writing-more (idAt chroma) 28 (look chroma d) from out id at at′ now now′ (lookedAt chroma d id) 1116 h (look-cons id h) (L .left) w);
-          near = spans-more from at′ (1116 * id + 1116) (1116 * (id + 1)) (omega arith) (spans-then from at at′ (1116 * id) 1116 (L .near) (w .within));
+          left = writing-more (idAt chroma) 28 (look chroma d) from out id at at′ now now′ (lookedAt chroma d id) 1116 h (look-cons id h) (L .left) w;
+          near = spans-step from at at′ 1116 id (L .near) (w .within);
           count = omega arith;
         }
 

@@ -2,8 +2,9 @@
 use mathlib.Core.Path.{_≡_, refl, sym, ap, _∙_}
 use mathlib.Core.Bool.{Bool, true, false, cond, _&&_}
 use mathlib.Core.List.{List, [], _∷_, _++_}
-use Prim.Native.Nat.{ℕ, suc, _+_, _-_, _≤_, _<_}
-use native.Mathlib.Nat.{add-zero, add-assoc, sub-zero}
+use Prim.Native.Nat.{ℕ, suc, _+_, _-_, _*_, _≤_, _<_}
+use native.Mathlib.Nat.{add-zero, add-assoc, mul-suc, sub-zero}
+use native.Mathlib.Numerals.{add-one}
 use native.Mathlib.Omega.{arith}
 use lib.ListN.{length, drop, length-append}
 use Rattle.bitstream.specs.Outcome.{Outcome, value, refused, number, _then_}
@@ -122,6 +123,12 @@ pub spans-more : (from to : Stop) (m n : ℕ) → m ≤ n → Spans from to m �
 spans-more from (Stop.End q) m n l h j s = let d = h j s in omega arith
 spans-more from (Stop.Refused e) m n l h j s = tt
 
+-- i runs of at most m bits, and one more
+pub spans-step : (from at to : Stop) (m i : ℕ) → Spans from at (m * i) → Spans at to m → Spans from to (m * (i + 1))
+spans-step from at to m i h k =
+    let e : m * (i + 1) ≡ m * i + m = rw (add-one i) (omega (arith, mul-suc m i)) in
+    rw e (spans-then from at to (m * i) m h k)
+
 module _ {A : Type 0} (c : Codec A) (a : A) (m : ℕ) where
   -- a run that was refused before stays so
   pub wrote-stays : {from : Stop} (why : Refusal) (out out′ : List ℕ) → from ≡ Stop.Refused why → Wrote c a m from (Stop.Refused why) out out′
@@ -219,12 +226,12 @@ module _ {A : Type 0} (k : ℕ → Codec A) (N : ℕ) (xs : List A) (from : Stop
 
   -- one entry more is written
   pub writing-more : (i : ℕ) (at at′ : Stop) (now now′ : List ℕ) (x : A) (m : ℕ) → i < N → drop i xs ≡ x ∷ drop (suc i) xs
-      → Writing i at now → Wrote (k i) x m at at′ now now′ → Writing (suc i) at′ now′
+      → Writing i at now → Wrote (k i) x m at at′ now now′ → Writing (i + 1) at′ now′
   writing-more i at at′ now now′ x m l e w v =
       let s : N - i ≡ suc (N - suc i) = omega arith in
-      sym (after-then at at′ now′ (writes (k i) x now) (λ o q. writes (eachFrom (suc i) (N - suc i) k) (drop (suc i) xs) o q) (v .answer))
+      rw (add-one i) (sym (after-then at at′ now′ (writes (k i) x now) (λ o q. writes (eachFrom (suc i) (N - suc i) k) (drop (suc i) xs) o q) (v .answer))
       ∙ sym (after-same at _ _ (λ p. writes-cons k i (N - suc i) x (drop (suc i) xs) now p))
-      ∙ (rw (s, e) at w)
+      ∙ (rw (s, e) at w))
 
   -- all are written
   pub writing-done : (at : Stop) (now : List ℕ) → drop N xs ≡ [] → Writing N at now → outcomeStop at now ≡ after from (writes (each N k) xs out)

@@ -1,6 +1,6 @@
 -- `put_indexes`: nothing is sent of one filter; else the loop has written the first i indexes.
 use mathlib.Core.Path.{_≡_, ap, _∙_}
-use Prim.Native.Nat.{suc, _+_, _-_, _*_, _≤_}
+use Prim.Native.Nat.{_+_, _-_, _*_, _≤_}
 use native.Mathlib.Omega.{arith}
 use borrow.Author.Needs.{needs}
 use denote.Ref.{now}
@@ -10,7 +10,7 @@ use Rattle.aps.specs.Stops.{Spans}
 use Rattle.aps_writer.specs.Writing.{unsent}
 use Rattle.aps.proofs.StopLaws.{stops-more}
 use Rattle.aps.proofs.AlfSteps.{index}
-use Rattle.aps_writer.proofs.WriteSteps.{Writing, writing-start, writing-more, spans-then, spans-more}
+use Rattle.aps_writer.proofs.WriteSteps.{Writing, writing-start, writing-more, spans-step, spans-more}
 use Rattle.aps_writer.proofs.SentWrites.{spans-here}
 use Rattle.aps_writer.proofs.ArrayWrites.{wrote-each}
 use Rattle.aps_writer.proofs.AlfFilters.{index-sent, indexes-none}
@@ -73,12 +73,11 @@ loop-again c =
     let n = a .count-minus1 in
     let o = l .loop in
     let k = c .before .before .put-index in
-    let e : o .i + 1 ≡ suc (o .i) = omega arith in
     let w = index-sent n (g .result) (getD s (o .i) 0) (g .ensures .0) (g .ensures .1) (l .before .before .if1 .left) (k .ensures) in (
       search needs,
       omega arith,
-      spans-more (a .from) (k .result) (32 * o .i + 32) (32 * (o .i + 1)) (omega arith) (spans-then (a .from) (o .at) (k .result) (32 * o .i) 32 (o .inv .2) (w .within)),
-      rw e (writing-more (λ i. index n) 25 s (a .from) (a .out .now) (o .i) (o .at) (k .result) (o .out) _ (getD s (o .i) 0) 32 (omega arith) (drop-cons s (o .i) 0 (omega arith)) (o .inv .3) w),
+      spans-step (a .from) (o .at) (k .result) 32 (o .i) (o .inv .2) (w .within),
+      writing-more (λ i. index n) 25 s (a .from) (a .out .now) (o .i) (o .at) (k .result) (o .out) _ (getD s (o .i) 0) 32 (omega arith) (drop-cons s (o .i) 0 (omega arith)) (o .inv .3) w,
     )
 
 same-length : tie.Need-same-length Inv-loop μ-loop
