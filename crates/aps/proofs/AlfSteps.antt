@@ -1,8 +1,9 @@
 -- The steps of alf_data( ), as its readers take them.
 use mathlib.Core.Path.{_≡_, refl, sym, ap, _∙_}
 use mathlib.Core.Bool.{Bool, true, false, cond, not, _&&_}
-use mathlib.Core.List.{List, _∷_}
-use Prim.Native.Nat.{ℕ, zero, suc, _+_, _-_, _*_, _/_, _^_, _≤_, _<_}
+use mathlib.Core.List.{List}
+use Prim.Native.Nat.{ℕ, _+_, _*_, _/_, _^_, _≤_, _<_}
+use native.Mathlib.Nat.{mul-comm, div-lt-iff-lt-mul, le-div-iff-mul-le}
 use native.Mathlib.Omega.{arith}
 use borrow.Author.Tests.{ltb-true, ltb-false, leb-true, lt-ltb, le-ltb, le-leb, lt-leb}
 use lib.Dec.{leb, ltb, eqb}
@@ -12,7 +13,7 @@ use Rattle.bitstream.specs.Bits.{fieldAt}
 use Rattle.bitstream.specs.Fields.{readUe}
 use Rattle.bitstream.proofs.CodeLaws.{value-refused}
 use Rattle.bitstream.proofs.FieldLaws.{field-lt}
-use Rattle.aps.specs.Codec.{Codec, u, ue, _▷_, via, judged, Inferred, when, eachFrom, each}
+use Rattle.aps.specs.Codec.{Codec, u, _▷_, via, judged, Inferred, when, each}
 use Rattle.aps.specs.Elements.{flag, ueTo, signed, noNumber, noSigned, apart}
 use Rattle.aps.specs.AlfSyntax.{ceilLog2, coefficient, lumaCoefficients, lumaClips}
 use Rattle.aps.specs.AlfSyntax.{ccSyntax, ccCoefficients, toCc, alf, alfSyntax, alfFilters, toAlf}
@@ -21,11 +22,8 @@ use Rattle.aps.specs.declared.alf.VvcAlfChroma.{VvcAlfChroma}
 use Rattle.aps.specs.declared.alf.VvcAlfCcFilters.{VvcAlfCcFilters}
 use Rattle.aps.specs.declared.alf.VvcAlfData.{VvcAlfData}
 use Rattle.aps.specs.AlfSyntax as Alf
-use Rattle.aps.proofs.Steps.{u-read, flag-read, signed-read, judged-read, when-read, Reading, reading-start, Reading2, reading2-start}
-
-pub ueTo-read : (most : ℕ) (s : List ℕ) (p : ℕ) → (ueTo most) .read s p ≡ _then_ (readUe s p) (λ v q. cond (leb v most) (value v q) (refused 2))
-unfolding ueTo judged ue
-ueTo-read most s p = refl
+use Rattle.aps.proofs.EachLaws.{each-same}
+use Rattle.aps.proofs.Steps.{u-read, ueTo-read, flag-read, signed-read, judged-read, when-read, Reading, reading-start, Reading2, reading2-start}
 
 pub ueTo-most : (most : ℕ) (s : List ℕ) (p v q : ℕ) → value v q ≡ (ueTo most) .read s p → v ≤ most
 ueTo-most most s p v q e = first (readUe s p) (e ∙ ueTo-read most s p)
@@ -38,43 +36,31 @@ ueTo-most most s p v q e = first (readUe s p) (e ∙ ueTo-read most s p)
     first (value w r) e = second w r (leb w most) refl e
     first (refused n) e = absurd (value-refused e)
 
--- arrays whose entries are read alike
-module _ {A : Type 0} (k l : ℕ → Codec A) (s : List ℕ) where
-  each-same-from : (i n p : ℕ) → ((j : ℕ) → j < i + n → (q : ℕ) → (k j) .read s q ≡ (l j) .read s q) → (eachFrom i n k) .read s p ≡ (eachFrom i n l) .read s p
-  unfolding eachFrom
-  each-same-from i zero p h = refl
-  each-same-from i (suc n) p h = rw (h i (omega arith) p) (go ((l i) .read s p) (λ q. each-same-from (suc i) n q (λ j b. h j (omega arith))))
-    where
-      go : (o : Outcome A) → ((q : ℕ) → (eachFrom (suc i) n k) .read s q ≡ (eachFrom (suc i) n l) .read s q)
-          → _then_ o (λ x q. _then_ ((eachFrom (suc i) n k) .read s q) (λ xs r. value (x ∷ xs) r)) ≡ _then_ o (λ x q. _then_ ((eachFrom (suc i) n l) .read s q) (λ xs r. value (x ∷ xs) r))
-      go (value x q) ih = rw (ih q)
-      go (refused e) ih = refl
-
-  pub each-same : (n p : ℕ) → ((j : ℕ) → j < n → (q : ℕ) → (k j) .read s q ≡ (l j) .read s q) → (each n k) .read s p ≡ (each n l) .read s p
-  each-same n p h = each-same-from 0 n p (λ j b. h j (omega arith))
-
 -- an entry of a flat array is in a row that is sent, or below the count of entries sent
-pub row-test : (i n : ℕ) → ltb i (12 * (n + 1)) ≡ leb (i / 12) n
-row-test i n = go (ltb i (12 * (n + 1))) refl
+pub row-test : (w i n : ℕ) → 0 < w → ltb i (w * (n + 1)) ≡ leb (i / w) n
+row-test w i n some = go (ltb i (w * (n + 1))) refl
   where
-    go : (b : Bool) → ltb i (12 * (n + 1)) ≡ b → b ≡ leb (i / 12) n
-    go true e = sym (le-leb (i / 12) n (omega (arith, ltb-true i (12 * (n + 1)) e)))
-    go false e = sym (lt-leb (i / 12) n (omega (arith, ltb-false i (12 * (n + 1)) e)))
+    go : (b : Bool) → ltb i (w * (n + 1)) ≡ b → b ≡ leb (i / w) n
+    go true e =
+        let h : i < (n + 1) * w = rw (mul-comm w (n + 1)) at (ltb-true i (w * (n + 1)) e) in
+        let k : i / w < n + 1 = div-lt-iff-lt-mul some .1 h in
+        sym (le-leb (i / w) n (omega arith))
+    go false e =
+        let h : (n + 1) * w ≤ i = rw (mul-comm w (n + 1)) at (ltb-false i (w * (n + 1)) e) in
+        let k : n + 1 ≤ i / w = le-div-iff-mul-le some .1 h in
+        sym (lt-leb (i / w) n (omega arith))
 
+-- a clip is sent where the flag is set and the entry is
 pub sent-test : (clip : Bool) (i n : ℕ) → ltb i (cond clip n 0) ≡ (clip && ltb i n)
 sent-test true i n = refl
 sent-test false i n = le-ltb i 0 (omega arith)
 
 module _ (n : ℕ) (s : List ℕ) (p : ℕ) where
   pub luma-coefficients : (apart (each 300 λ i. when (ltb i (12 * (n + 1))) noSigned coefficient)) .read s p ≡ (lumaCoefficients n) .read s p
-  unfolding apart via
-  luma-coefficients =
-      rw (each-same (λ i. when (ltb i (12 * (n + 1))) noSigned coefficient) (λ i. when (leb (i / 12) n) noSigned coefficient) s 300 p (λ j h q. rw (row-test j n)))
+  luma-coefficients = ap (λ (c : Codec (List (ℕ × Bool))). (apart c) .read s p) (each-same 300 λ j h. rw (row-test 12 j n (omega arith)))
 
   pub luma-clips : (clip : Bool) → (each 300 λ i. when (ltb i (cond clip (12 * (n + 1)) 0)) noNumber (u 2)) .read s p ≡ (lumaClips clip n) .read s p
-  luma-clips clip =
-      each-same (λ i. when (ltb i (cond clip (12 * (n + 1)) 0)) noNumber (u 2)) (λ i. when (clip && leb (i / 12) n) noNumber (u 2)) s 300 p
-      (λ j h q. rw (sent-test clip j (12 * (n + 1)), row-test j n))
+  luma-clips clip = ap (λ (c : Codec (List ℕ)). c .read s p) (each-same 300 λ j h. rw (sent-test clip j (12 * (n + 1)), row-test 12 j n (omega arith)))
 
 -- a loop starts with arrays of what is inferred
 pub reading-from : {A : Type 0} (k : ℕ → Codec A) (N : ℕ) (v : A) (s : List ℕ) (p : ℕ) (a : List A) → a ≡ replicate N v → Reading k N v s p 0 a p
@@ -84,15 +70,15 @@ pub reading2-from : {A B : Type 0} (k : ℕ → Codec (A × B)) (N : ℕ) (v : A
     → a ≡ replicate N v → b ≡ replicate N w → Reading2 k N v w s p 0 a b p
 reading2-from k N v w s p a b e f = rw (e, f) (reading2-start k N v w s p)
 
--- an index, where there is more than one filter
-module _ (count-1 : ℕ) (s : List ℕ) (q bits x : ℕ) (width : bits ≡ ceilLog2 (count-1 + 1)) (field : x ≡ fieldAt s q bits) (some : 0 < count-1) where
-  abbrev index : Codec ℕ
-  index = when (ltb 0 count-1) noNumber (judged (λ x. leb x count-1) (u (ceilLog2 (count-1 + 1))))
+-- an index is sent where there is more than one filter
+abbrev pub index : ℕ → Codec ℕ
+index count-1 = when (ltb 0 count-1) noNumber (judged (λ x. leb x count-1) (u (ceilLog2 (count-1 + 1))))
 
-  pub index-taken : x ≤ count-1 → index .read s q ≡ value x (q + bits)
+module _ (count-1 : ℕ) (s : List ℕ) (q bits x : ℕ) (width : bits ≡ ceilLog2 (count-1 + 1)) (field : x ≡ fieldAt s q bits) (some : 0 < count-1) where
+  pub index-taken : x ≤ count-1 → (index count-1) .read s q ≡ value x (q + bits)
   index-taken h = rw (when-read, lt-ltb 0 count-1 some, judged-read, ← width, u-read, ← field, le-leb x count-1 h)
 
-  pub index-refused : count-1 < x → index .read s q ≡ refused 2
+  pub index-refused : count-1 < x → (index count-1) .read s q ≡ refused 2
   index-refused h = rw (when-read, lt-ltb 0 count-1 some, judged-read, ← width, u-read, ← field, lt-leb x count-1 h)
 
 -- a magnitude u(n) is below 2 ^ n

@@ -18,11 +18,13 @@ use Rattle.aps.specs.Reading.{outcomeStop}
 use Rattle.aps.specs.Stops.{after}
 use Rattle.aps.specs.declared.fields.Stop.{Stop}
 use Rattle.aps.specs.declared.fields.Stop.the-variants as Stop
-use Rattle.aps.proofs.PairLaws.{zipped-there, length-firsts, firsts-zipped, seconds-zipped}
+use Rattle.aps.proofs.EachLaws.{each-same}
+use Rattle.aps.proofs.ElementLaws.{joined-rows, length-rows}
+use Rattle.aps.proofs.PairLaws.{zipped-there, zipped-length, firsts-zipped, seconds-zipped}
 use Rattle.aps.proofs.Steps.{Reading, reading-start, reading-more, reading-done, reading-refused, zipped-set, apart-read}
-use Rattle.aps.proofs.AlfSteps.{each-same, sent-test}
+use Rattle.aps.proofs.AlfSteps.{sent-test}
 use Rattle.aps.proofs.StopLaws.{after-same, map-stop, ▷-after}
-use Rattle.aps.proofs.RowLaws.{length-rows, rows-set, joined-rows, zipped-sets}
+use Rattle.aps.proofs.RowLaws.{rows-set, zipped-sets}
 
 -- the pairs of two arrays that were read together
 pub apart-pairs : {A B : Type 0} (c : Codec (List (A × B))) (s : List ℕ) (p : ℕ) (to : Stop) (a : List A) (b : List B)
@@ -53,8 +55,8 @@ unfolding alternative
 alternative-from s p clip mid to abs sign clips sent h e f =
     ▷-after (each 6 λ j. when (leb 0 0) noSigned coefficient) (λ coeff. each 6 λ j. when (clip && leb 0 0) noNumber (u 2)) s (Stop.End p) mid to (zipped abs sign) clips
     (apart-pairs (each 6 λ i. when (ltb i 6) noSigned coefficient) s p mid abs sign e
-    ∙ each-same (λ i. when (ltb i 6) noSigned coefficient) (λ j. when (leb 0 0) noSigned coefficient) s 6 p (λ j l q. rw (lt-ltb j 6 l)))
-    (f ∙ after-same mid _ _ (λ p. each-same (λ i. when (ltb i sent) noNumber (u 2)) (λ j. when (clip && leb 0 0) noNumber (u 2)) s 6 p (λ j l q. rw (h, sent-test clip j 6, lt-ltb j 6 l))))
+    ∙ ap (λ (c : Codec (List (ℕ × Bool))). c .read s p) (each-same 6 λ j l. rw (lt-ltb j 6 l)))
+    (f ∙ after-same mid _ _ (λ p. ap (λ (c : Codec (List ℕ)). c .read s p) (each-same 6 λ j l. rw (h, sent-test clip j 6, lt-ltb j 6 l))))
 
 abbrev pub blank : List (ℕ × Bool) × List ℕ
 blank = (replicate 6 (0, false), replicate 6 0)
@@ -85,7 +87,7 @@ module _ (clip : Bool) (n : ℕ) (s : List ℕ) (p : ℕ) where
 
   module _ (row : ℕ) (abs : List ℕ) (sign : List Bool) (clips : List ℕ) (q : ℕ) (R : Rows clip n s p row abs sign clips q) where
     pairs-size : length (zipped abs sign) ≡ 48
-    pairs-size = sym (length-firsts (zipped abs sign)) ∙ ap length (firsts-zipped abs sign (R .size-abs ∙ sym (R .size-sign))) ∙ R .size-abs
+    pairs-size = zipped-length abs sign (R .size-sign ∙ sym (R .size-abs)) ∙ R .size-abs
 
     rows-same : length (rowsOf 8 6 (zipped abs sign)) ≡ length (rowsOf 8 6 clips)
     rows-same = length-rows 8 6 (zipped abs sign) ∙ sym (length-rows 8 6 clips)
@@ -94,7 +96,7 @@ module _ (clip : Bool) (n : ℕ) (s : List ℕ) (p : ℕ) where
       stored : set (zipped (rowsOf 8 6 (zipped abs sign)) (rowsOf 8 6 clips)) row (zipped x y, z)
           ≡ zipped (rowsOf 8 6 (zipped (sets abs (6 * row) x) (sets sign (6 * row) y))) (rowsOf 8 6 (sets clips (6 * row) z))
       stored =
-          let w : length (zipped x y) ≡ 6 = sym (length-firsts (zipped x y)) ∙ ap length (firsts-zipped x y (size-x ∙ sym size-y)) ∙ size-x in
+          let w : length (zipped x y) ≡ 6 = zipped-length x y (size-y ∙ sym size-x) ∙ size-x in
           zipped-set (rowsOf 8 6 (zipped abs sign)) (rowsOf 8 6 clips) row (zipped x y) z rows-same
           ∙ rw (
             ← rows-set 8 6 row (zipped abs sign) (zipped x y) h pairs-size w,

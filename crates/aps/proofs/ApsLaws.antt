@@ -13,7 +13,7 @@ use Rattle.aps.specs.Codec.{Codec, u, _▷_, via, judged, provided, neve
 use Rattle.aps.specs.Elements.{flag}
 use Rattle.aps.specs.AlfSyntax.{alf}
 use Rattle.aps.specs.LmcsSyntax.{lmcs}
-use Rattle.aps.specs.ScalingSyntax.{scalingSyntax, keep, look}
+use Rattle.aps.specs.ScalingSyntax.{scalingSyntax}
 use Rattle.aps.specs.ApsSyntax.{Payload, ofAlf, ofLmcs, ofScaling, kindOf, alfIn, lmcsIn, entriesIn, scalingIn, isAlf, isLmcs, isScaling, payload, ApsData, apsSyntax, toAps, numberOf, payloadOf, fromAps, aps, inferred}
 use Rattle.aps.specs.declared.aps.ApsKind.{ApsKind}
 use Rattle.aps.specs.declared.aps.VvcAps.{VvcAps}

@@ -5,19 +5,17 @@ use Prim.Native.Nat.{ℕ, zero, suc, _<_}
 use native.Mathlib.Omega.{arith}
 use borrow.Author.Tests.{eqb-true, eqb-false}
 use lib.Dec.{eqb}
+use Rattle.aps.proofs.CodecLaws.{and-left, and-right}
 
 -- f at each number below n
 abbrev pub below : (ℕ → Bool) → ℕ → Bool
 below f zero = true
 below f (suc n) = f n && below f n
 
-and-true : (a b : Bool) → (a && b) ≡ true → (a ≡ true) × (b ≡ true)
-and-true true b e = (refl, e)
-and-true false b e = let z : _≡_ {A = ℕ} 0 1 = cc in absurd (omega arith)
-
+-- f holds at each number below n where the test of all of them does
 pub below-rule : (f : ℕ → Bool) (n : ℕ) → below f n ≡ true → (k : ℕ) → k < n → f k ≡ true
 below-rule f zero t k h = absurd (omega arith)
-below-rule f (suc n) t k h = last (and-true (f n) (below f n) t) (below-rule f n) (eqb k n) refl
+below-rule f (suc n) t k h = last (and-left (f n) (below f n) t, and-right (f n) (below f n) t) (below-rule f n) (eqb k n) refl
   where
     last : (f n ≡ true) × (below f n ≡ true) → (below f n ≡ true → (k : ℕ) → k < n → f k ≡ true) → (b : Bool) → eqb k n ≡ b → f k ≡ true
     last t rule true e = ap f (eqb-true k n e) ∙ t .0

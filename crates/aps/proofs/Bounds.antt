@@ -1,6 +1,6 @@
 -- How far a field can reach.
 use Prim.Native.Nat.{ℕ, _+_, _≤_}
-use mathlib.Core.Path.{_≡_, refl, sym, _∙_}
+use mathlib.Core.Path.{_≡_, refl}
 use mathlib.Core.List.{List}
 use lib.IntN.{ℤ}
 use Rattle.bitstream.specs.Outcome.{Outcome, value, refused, mapOutcome}

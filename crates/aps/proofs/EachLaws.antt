@@ -9,7 +9,7 @@ use lib.ListN.{length, getD, length-append}
 use Rattle.bitstream.specs.Outcome.{Outcome, value, _then_}
 use Rattle.bitstream.specs.Bits.{Holds, AreBits}
 use Rattle.bitstream.proofs.HoldLaws.{bits-append, holds-append, holds-join}
-use Rattle.aps.specs.Codec.{Codec, nilOk, consOk, consEmit, eachFrom}
+use Rattle.aps.specs.Codec.{Codec, nilOk, consOk, consEmit, eachFrom, each}
 use Rattle.aps.proofs.Lawful.{Lawful, total}
 use Rattle.aps.proofs.CodecLaws.{then-value, never-true, and-left, and-right, and-both, holds-none, bits-none}
 
@@ -116,3 +116,15 @@ module _ {A : Type 0} where
   each-at i (suc n) k d (x ∷ l) o zero h = rw add-zero (and-left ((k i) .ok x) ((eachFrom (suc i) n k) .ok l) o)
   each-at i (suc n) k d (x ∷ l) o (suc j) h =
       rw (add-suc i j, ← suc-add i j) (each-at (suc i) n k d l (and-right ((k i) .ok x) ((eachFrom (suc i) n k) .ok l) o) j (omega arith))
+
+-- ---- arrays whose entries are described alike
+
+module _ {A : Type 0} {k l : ℕ → Codec A} where
+  same-from : (i n : ℕ) → ((j : ℕ) → j < i + n → k j ≡ l j) → eachFrom i n k ≡ eachFrom i n l
+  unfolding eachFrom
+  same-from i zero h = refl
+  same-from i (suc n) h = rw (h i (omega arith), same-from (suc i) n (λ j b. h j (omega arith)))
+
+  -- codecs that are the same at each index make the same array
+  pub each-same : (n : ℕ) → ((j : ℕ) → j < n → k j ≡ l j) → each n k ≡ each n l
+  each-same n h = same-from 0 n (λ j b. h j (omega arith))

@@ -159,9 +159,9 @@ module _ {A : Type 0} where
   length-joined w [] h = sym (zero-mul w)
   length-joined w (l ∷ ls) h = omega (arith, length-append l (joined ls), length-joined w ls (h .1), h .0, suc-mul (length ls) w)
 
-  length-rowsOf : (r w : ℕ) (l : List A) → length (rowsOf r w l) ≡ r
-  length-rowsOf zero w l = refl
-  length-rowsOf (suc r) w l = ap suc (length-rowsOf r w (drop w l))
+  pub length-rows : (r w : ℕ) (l : List A) → length (rowsOf r w l) ≡ r
+  length-rows zero w l = refl
+  length-rows (suc r) w l = ap suc (length-rows r w (drop w l))
 
 module _ {A B : Type 0} where
   -- the rows of an array of rows
@@ -199,7 +199,7 @@ module _ {A B : Type 0} where
       (λ x o t.
       let ea = eqb-true (length (x .0)) (r * w) (and-left (eqb (length (x .0)) (r * w)) (eqb (length (x .1)) (r * w)) t) in
       let eb = eqb-true (length (x .1)) (r * w) (and-right (eqb (length (x .0)) (r * w)) (eqb (length (x .1)) (r * w)) t) in
-      let el : length (rowsOf r w (x .0)) ≡ length (rowsOf r w (x .1)) = length-rowsOf r w (x .0) ∙ sym (length-rowsOf r w (x .1)) in
+      let el : length (rowsOf r w (x .0)) ≡ length (rowsOf r w (x .1)) = length-rows r w (x .0) ∙ sym (length-rows r w (x .1)) in
       rw (
         firsts-zipped (rowsOf r w (x .0)) (rowsOf r w (x .1)) el,
         seconds-zipped (rowsOf r w (x .0)) (rowsOf r w (x .1)) el,

@@ -7,7 +7,7 @@ use native.Mathlib.Omega.{arith}
 use lib.Dec.{ltb, eqb}
 use lib.IntN.{ℤ, pos, negsuc}
 use lib.ListN.{length, getD, take, drop, replicate, length-append, length-replicate, length-map, List·getD-map}
-use lib.Seq.{take-at, drop-at, drop-drop, take-take, length-take-le, getD-drop}
+use lib.Seq.{take-at, drop-at, drop-drop, take-take, length-take-le, getD-drop, ext-getD}
 use native.Mathlib.Nat.{add-zero, zero-add, suc-add, add-suc, zero-mul, suc-mul}
 use borrow.Author.Tests.{ltb-true}
 use Rattle.aps.specs.Codec.{Codec, _▷_, via, when}
@@ -17,7 +17,7 @@ use Rattle.aps.specs.declared.scaling_list.VvcScalingListData.{VvcScalin
 use Rattle.aps.proofs.CodecLaws.{and-left, and-right, never-true}
 use Rattle.aps.proofs.EachLaws.{each-length, each-at}
 use Rattle.aps.proofs.ElementLaws.{noPair-is, Wide}
-use Rattle.aps.proofs.ScalingLaws.{eqZ-only, just-is, noEntries-is, noEntry-is}
+use Rattle.aps.proofs.ScalingLaws.{entries-le, eqZ-only, just-is, noEntries-is, noEntry-is}
 
 -- n sums are n
 sums-length : (id i n : ℕ) (prev : ℤ) (l : List ℤ) → (sums id i n prev) .ok l ≡ true → length l ≡ n
@@ -31,15 +31,15 @@ sums-length id i (suc n) prev (v ∷ l) o =
     ap suc (sums-length id (suc i) n v l (and-right ((when (not (skipped id i)) (just prev) (step prev)) .ok v) ((sums id (suc i) n v) .ok l) a))
 
 module _ {A : Type 0} where
-  -- a table of a list's entries is the list
-  tabulate-is : (i n : ℕ) (f : ℕ → A) (d : A) (l : List A) → length l ≡ n → ((j : ℕ) → j < n → f (i + j) ≡ getD l j d) → tabulate i n f ≡ l
-  tabulate-is i zero f d [] e h = refl
-  tabulate-is i zero f d (x ∷ l) e h = absurd (omega arith)
-  tabulate-is i (suc n) f d [] e h = absurd (omega arith)
-  tabulate-is i (suc n) f d (x ∷ l) e h =
-      let a : f i ≡ x = rw add-zero at (h 0 (omega arith)) in
-      let b = tabulate-is (suc i) n f d l (omega arith) (λ j k. rw (suc-add i j, ← add-suc i j) (h (suc j) (omega arith))) in
-      λ t. a t ∷ b t
+  length-tabulate : (i n : ℕ) (f : ℕ → A) → length (tabulate i n f) ≡ n
+  length-tabulate i zero f = refl
+  length-tabulate i (suc n) f = ap suc (length-tabulate (suc i) n f)
+
+  -- entry j of a table from i on
+  tabulate-at : (i n : ℕ) (f : ℕ → A) (j : ℕ) (d : A) → j < n → getD (tabulate i n f) j d ≡ f (i + j)
+  tabulate-at i zero f j d h = absurd (omega arith)
+  tabulate-at i (suc n) f zero d h = rw (add-zero i)
+  tabulate-at i (suc n) f (suc j) d h = tabulate-at (suc i) n f j d (omega arith) ∙ rw (suc-add i j, add-suc i j)
 
   -- a row of a flat array
   row-at : (w : ℕ) (d : List A) (ls : List (List A)) → Wide w ls → (j : ℕ) → j < length ls → take w (drop (j * w) (joined ls)) ≡ getD ls j d
@@ -50,7 +50,7 @@ module _ {A : Type 0} where
       rw (e, ← drop-drop (j * w) w (l ++ joined ls), drop-at l (joined ls) w (h .0)) (row-at w d ls (h .1) j (omega arith))
 
 -- a filled list has 64 entries
-length-filled : (l : List ℤ) → length (filled l) ≡ 64
+pub length-filled : (l : List ℤ) → length (filled l) ≡ 64
 unfolding filled
 length-filled l = length-take-le 64 (l ++ replicate 64 (pos 0)) (omega (arith, length-append l (replicate 64 (pos 0)), length-replicate 64 (pos 0)))
 
@@ -62,15 +62,6 @@ filled-wide (e ∷ es) = (length-filled (e .1 .1 .1 .1), filled-wide es)
 take-filled : (n : ℕ) (l : List ℤ) → length l ≡ n → n ≤ 64 → take n (filled l) ≡ l
 unfolding filled
 take-filled n l e h = take-take n 64 (l ++ replicate 64 (pos 0)) h ∙ take-at l (replicate 64 (pos 0)) n e
-
-entries-le : (id : ℕ) → entries id ≤ 64
-unfolding entries
-entries-le id = go (ltb id 2) (ltb id 8)
-  where
-    go : (a b : Bool) → cond a 4 (cond b 16 64) ≤ 64
-    go true b = omega arith
-    go false true = omega arith
-    go false false = omega arith
 
 -- what is looked at of the DC and the list of an id
 coefficients-looked : (id : ℕ) (dc : ℤ) (l : List ℤ) → (coefficients id) .ok (dc, l) ≡ true
@@ -152,16 +143,33 @@ module _ (es : List Entry) (j : ℕ) (h : j < length es) where
       ∙ ap (λ (i : ℕ). getD (map (λ (e : Entry). e .1 .1 .1 .0) es) i (pos 0)) (omega arith)
       ∙ List·getD-map (λ (e : Entry). e .1 .1 .1 .0) es j (noEntry .default)
 
+-- what is looked at of an id
+abbrev pub lookedAt : Bool → VvcScalingListData → ℕ → Entry
+lookedAt chroma d id =
+    looked chroma id (getD (d .«copy_mode_flag») id true) (getD (d .«pred_mode_flag») id false) (getD (d .«pred_id_delta») id 0)
+    (getD (d .«dc_coef») (id - 14) (pos 0)) (take 64 (drop (id * 64) (d .«scaling_list»)))
+
+module _ (chroma : Bool) (d : VvcScalingListData) where
+  pub length-look : length (look chroma d) ≡ 28
+  unfolding look
+  length-look = length-tabulate 0 28 (lookedAt chroma d)
+
+  pub look-at : (id : ℕ) (e : Entry) → id < 28 → getD (look chroma d) id e ≡ lookedAt chroma d id
+  unfolding look
+  look-at id e h = tabulate-at 0 28 (lookedAt chroma d) id e h ∙ rw (zero-add id)
+
 -- what was read is looked at again as it was read
 pub look-keep : (chroma : Bool) (es : List Entry) → (scalingSyntax chroma) .ok es ≡ true → look chroma (keep es) ≡ es
-unfolding scalingSyntax look keep
+unfolding scalingSyntax keep
 look-keep chroma es o =
     let n = each-length 0 28 k es o in
-    tabulate-is 0 28 f d es n λ j h.
+    let size : length (look chroma s) ≡ 28 = length-look chroma s in
+    ext-getD d (look chroma s) es (size ∙ sym n) λ j l.
+    let h : j < 28 = omega arith in
     let e = getD es j d in
     let row = kept-row es j (omega arith) in
     let dc = kept-dc es j (omega arith) in
-    rw (zero-add j, List·getD-map (λ (e : Entry). e .0) es j d, List·getD-map (λ (e : Entry). e .1 .0) es j d, List·getD-map (λ (e : Entry). e .1 .1 .0) es j d, row)
+    rw (look-at chroma s j d h, List·getD-map (λ (e : Entry). e .0) es j d, List·getD-map (λ (e : Entry). e .1 .0) es j d, List·getD-map (λ (e : Entry). e .1 .1 .0) es j d, row)
     (looked-dc chroma j (e .0) (e .1 .0) (e .1 .1 .0) (getD (s .«dc_coef») (j - 14) (pos 0)) (e .1 .1 .1 .0) (filled (e .1 .1 .1 .1)) dc
     ∙ entry-looked chroma j e (rw (zero-add j) at (each-at 0 28 k d es o j h)))
   where
@@ -173,8 +181,3 @@ look-keep chroma es o =
 
     s : VvcScalingListData
     s = keep es
-
-    f : ℕ → Entry
-    f id =
-        looked chroma id (getD (s .«copy_mode_flag») id true) (getD (s .«pred_mode_flag») id false) (getD (s .«pred_id_delta») id 0)
-        (getD (s .«dc_coef») (id - 14) (pos 0)) (take 64 (drop (id * 64) (s .«scaling_list»)))

@@ -8,7 +8,7 @@ use lib.ListN.{length, length-append}
 use borrow.Author.Tests.{leb-true}
 use lib.Count.{leadingZeros}
 use Rattle.bitstream.specs.Fields.{ueZeros, ueBits}
-use Rattle.aps.specs.Codec.{Codec, ue, _▷_, judged}
+use Rattle.aps.specs.Codec.{ue, _▷_, judged}
 use Rattle.aps.specs.LmcsSyntax.{LmcsHead, inRange, codedFrom, lmcsSyntax, toLmcs, fromLmcs, lmcs, lmcsHead}
 use Rattle.aps.proofs.Lawful.{Lawful}
 use Rattle.aps.proofs.FieldLaws.{u-law, ue-law}

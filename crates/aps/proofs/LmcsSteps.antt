@@ -1,10 +1,10 @@
 -- The steps of lmcs_data( ), as its reader takes them.
 use mathlib.Core.Path.{_≡_, refl, sym, ap, _∙_}
-use mathlib.Core.Bool.{Bool, true, false, cond, _&&_}
+use mathlib.Core.Bool.{Bool, true, false, _&&_}
 use mathlib.Core.List.{List}
 use Prim.Native.Nat.{ℕ, _+_, _-_, _≤_, _<_}
 use native.Mathlib.Omega.{arith}
-use borrow.Author.Tests.{le-leb, lt-leb, leb-true}
+use borrow.Author.Tests.{leb-true}
 use lib.Dec.{leb}
 use Rattle.bitstream.specs.Outcome.{Outcome, value, refused, _then_}
 use Rattle.bitstream.specs.Fields.{readUe}
@@ -73,6 +73,10 @@ module _ (chroma : Bool) (s : List ℕ) (p : ℕ) where
           ≡ (x then λ cw q. ((lmcsChroma chroma) .read s q then λ crs r. value (toLmcs (h, (cw, crs))) r))
       first (value cw q) = second cw ((lmcsChroma chroma) .read s q)
       first (refused m) = refl
+
+-- a bin as the head says
+abbrev pub bin : ℕ → ℕ → ℕ → ℕ → Codec (ℕ × Bool)
+bin min max prec i = when (codedFrom min max i) noSigned (signed (u (prec + 1)))
 
 -- the chroma delta is of 3 bits
 pub crs-lt : (chroma : Bool) (s : List ℕ) (p : ℕ) {m : ℕ} {b : Bool} {q : ℕ} → (lmcsChroma chroma) .read s p ≡ value (m, b) q → m < 8

@@ -19,6 +19,11 @@ module _ {A B : Type 0} where
   length-seconds [] = refl
   length-seconds (x ∷ l) = ap suc (length-seconds l)
 
+  pub zipped-length : (a : List A) (b : List B) → length b ≡ length a → length (zipped a b) ≡ length a
+  zipped-length [] b e = refl
+  zipped-length (x ∷ a) [] e = absurd (omega arith)
+  zipped-length (x ∷ a) (y ∷ b) e = ap suc (zipped-length a b (omega arith))
+
   pub firsts-zipped : (a : List A) (b : List B) → length a ≡ length b → firsts (zipped a b) ≡ a
   firsts-zipped [] b e = refl
   firsts-zipped (x ∷ a) [] e = absurd (omega arith)

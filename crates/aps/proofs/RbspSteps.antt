@@ -11,12 +11,12 @@ use Rattle.bitstream.specs.Outcome.{Outcome, value, refused, number, mapOutcome
 use Rattle.bitstream.specs.declared.Refusal.{Refusal}
 use Rattle.bitstream.specs.Bits.{fieldAt}
 use Rattle.bitstream.specs.Fields.{readU}
-use Rattle.aps.specs.Codec.{Codec, u, _▷_, via, judged, provided, never}
+use Rattle.aps.specs.Codec.{u, _▷_, via, judged, provided, never}
 use Rattle.aps.specs.Elements.{flag}
 use Rattle.aps.specs.AlfSyntax.{alf}
 use Rattle.aps.specs.LmcsSyntax.{lmcs}
 use Rattle.aps.specs.ScalingSyntax.{Entry, scalingSyntax, keep}
-use Rattle.aps.specs.ApsSyntax.{zeroAlf, zeroLmcs, zeroScaling, Payload, ofAlf, ofLmcs, ofScaling, payload, ApsData, apsSyntax, toAps, aps}
+use Rattle.aps.specs.ApsSyntax.{zeroAlf, zeroLmcs, zeroScaling, Payload, ofAlf, ofLmcs, ofScaling, payload, apsSyntax, toAps, aps}
 use Rattle.aps.specs.Rbsp.{closed, readRbsp, parseApsRbsp, Headed}
 use Rattle.aps.specs.declared.alf.VvcAlfData.{VvcAlfData}
 use Rattle.aps.specs.declared.lmcs.VvcLmcsData.{VvcLmcsData}

@@ -1,13 +1,13 @@
 -- Rows of flat arrays.
 use mathlib.Core.Path.{_≡_, refl, sym, ap, _∙_}
 use mathlib.Core.List.{List, [], _∷_, _++_}
-use Prim.Native.Nat.{ℕ, zero, suc, _+_, _-_, _*_, _≤_, _<_}
+use Prim.Native.Nat.{ℕ, zero, suc, _+_, _*_, _≤_, _<_}
 use native.Mathlib.Nat.{add-zero, zero-add, add-suc, suc-add, mul-zero, mul-suc, suc-mul}
 use native.Mathlib.Numerals.{add-one}
 use native.Mathlib.Omega.{arith}
-use lib.ListN.{length, getD, take, drop, set, length-set, length-drop, take-append-drop}
+use lib.ListN.{length, getD, take, drop, set, length-set, length-drop}
 use lib.Seq.{sets, sets-eq, take-suc, take-set-le, drop-set-add, length-take-le, take-all, take-at, drop-at}
-use Rattle.aps.specs.Elements.{zipped, joined, rowsOf}
+use Rattle.aps.specs.Elements.{zipped, rowsOf}
 use Rattle.aps.proofs.Steps.{zipped-set}
 
 module _ {A : Type 0} where
@@ -34,10 +34,6 @@ module _ {A : Type 0} where
   drop-sets [] l n o = refl
   drop-sets (x ∷ xs) l n o = rw (← add-suc n o) (drop-sets xs (set l (n + o) x) n (suc o)) ∙ ap (λ (t : List A). sets t (suc o) xs) (drop-set-add n l o x)
 
-  pub length-rows : (r w : ℕ) (l : List A) → length (rowsOf r w l) ≡ r
-  length-rows zero w l = refl
-  length-rows (suc r) w l = ap suc (length-rows r w (drop w l))
-
   -- a row stored in a flat array
   pub rows-set : (r w i : ℕ) (l xs : List A) → i < r → length l ≡ r * w → length xs ≡ w → rowsOf r w (sets l (w * i) xs) ≡ set (rowsOf r w l) i xs
   rows-set zero w i l xs h e f = absurd (omega arith)
@@ -49,13 +45,6 @@ module _ {A : Type 0} where
       let o : w * suc i ≡ w + w * i = omega (arith, mul-suc w i) in
       let n : length (drop w l) ≡ r * w = omega (arith, length-drop w l, suc-mul r w) in
       rw (o, take-sets xs l w (w + w * i) (omega arith), drop-sets xs l w (w * i)) (ap (λ (t : List (List A)). take w l ∷ t) (rows-set r w i (drop w l) xs (omega arith) n f))
-
-  pub joined-rows : (r w : ℕ) (l : List A) → length l ≡ r * w → joined (rowsOf r w l) ≡ l
-  joined-rows zero w [] e = refl
-  joined-rows zero w (x ∷ l) e = absurd (omega arith)
-  joined-rows (suc r) w l e =
-      let n : length (drop w l) ≡ r * w = omega (arith, length-drop w l, suc-mul r w) in
-      rw (joined-rows r w (drop w l) n) (take-append-drop w l)
 
 module _ {A B : Type 0} where
   pub zipped-sets : (x : List A) (y : List B) (a : List A) (b : List B) (o : ℕ) → length a ≡ length b → length x ≡ length y

@@ -7,14 +7,15 @@ use native.Mathlib.Omega.{arith}
 use borrow.Author.Tests.{ltb-true, ltb-false}
 use lib.Dec.{ltb}
 use lib.IntN.{ℤ, pos}
-use lib.ListN.{length, getD, take, drop, set, replicate, length-append, length-replicate}
-use lib.Seq.{sets, drop-cons, drop-set-lt, drop-set-add, length-take-le}
+use lib.ListN.{length, getD, take, drop, set, replicate}
+use lib.Seq.{sets, drop-cons, drop-set-lt, drop-set-add}
 use Rattle.bitstream.specs.Outcome.{Outcome, value, refused, mapOutcome}
 use Rattle.aps.specs.Elements.{joined}
 use Rattle.aps.specs.ScalingSyntax.{Entry, idAt, scalingSyntax, filled, keep, stored}
 use Rattle.aps.specs.declared.scaling_list.VvcScalingListData.{VvcScalingListData}
 use Rattle.aps.proofs.Steps.{Reading, reading-start, reading-more, reading-refused, reading-done}
 use Rattle.aps.proofs.Gives.{given}
+use Rattle.aps.proofs.KeepLaws.{length-filled}
 use Rattle.aps.proofs.ScalingSteps.{Short, id-short}
 
 -- ---- stores
@@ -63,10 +64,6 @@ module _ {A : Type 0} where
 
 abbrev rowOf : Entry → List ℤ
 rowOf e = filled (e .1 .1 .1 .1)
-
-length-filled : (l : List ℤ) → length (filled l) ≡ 64
-unfolding filled
-length-filled l = length-take-le 64 (l ++ replicate 64 (pos 0)) (omega (arith, length-append l (replicate 64 (pos 0)), length-replicate 64 (pos 0)))
 
 front : (x : Entry) (l : List ℤ) (e : Entry) → x .1 .1 .1 .1 ≡ [] → Short e → rowOf e ++ l ≡ sets (rowOf x ++ l) 0 (e .1 .1 .1 .1)
 unfolding filled

@@ -19,6 +19,16 @@ use Rattle.aps.proofs.CodecLaws.{and-left, and-right, ▷-law, judged-l
 use Rattle.aps.proofs.EachLaws.{each-law}
 use Rattle.aps.proofs.ElementLaws.{ue-most, flag-law, ueTo-law, se-law, noFlag-is, noNumber-is, noPair-is}
 
+-- a matrix has at most 64 entries
+pub entries-le : (id : ℕ) → entries id ≤ 64
+unfolding entries
+entries-le id = go (ltb id 2) (ltb id 8)
+  where
+    go : (a b : Bool) → cond a 4 (cond b 16 64) ≤ 64
+    go true b = omega arith
+    go false true = omega arith
+    go false false = omega arith
+
 eqZ-refl : (z : ℤ) → eqZ z z ≡ true
 eqZ-refl (pos n) = eq-eqb n n refl
 eqZ-refl (negsuc n) = eq-eqb n n refl

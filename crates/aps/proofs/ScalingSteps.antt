@@ -7,7 +7,7 @@ use native.Mathlib.Nat.{add-zero, add-suc, sub-zero}
 use native.Mathlib.Numerals.{add-one}
 use native.Mathlib.Omega.{arith}
 use borrow.Author.Tests.{leb-true}
-use lib.Dec.{leb, ltb}
+use lib.Dec.{ltb}
 use lib.IntN.{ℤ, pos, negsuc, natAbs, _+ℤ_}
 use lib.Signed.{leZ, ltZ}
 use lib.ListN.{length, set}
@@ -15,12 +15,13 @@ use lib.Seq.{sets}
 use Rattle.bitstream.specs.Outcome.{Outcome, value, refused, mapOutcome, _then_}
 use Rattle.bitstream.specs.Fields.{readUe, readSe, seValue}
 use Rattle.aps.specs.Codec.{Codec, ue, _▷_, via, judged, when, eachFrom}
-use Rattle.aps.specs.Elements.{flag, se, seIn, ueTo, noFlag, noPair}
+use Rattle.aps.specs.Elements.{flag, se, seIn, noFlag, noPair}
 use Rattle.aps.specs.ScalingSyntax.{skipped, entries, idCoded, just, step, stepAt, sums, cons, Entry, coefficients, dcAt, deltaAt, noEntries, noEntry, entrySyntax, idAt, storedList, stored}
 use Rattle.aps.specs.Reading.{outcomeStop}
 use Rattle.aps.specs.declared.fields.Stop.{Stop}
 use Rattle.aps.specs.declared.fields.Stop.the-variants as Stop
 use Rattle.aps.proofs.Gives.{Gives, given, gives-then, gives-▷, gives-when}
+use Rattle.aps.proofs.ScalingLaws.{entries-le}
 use Rattle.aps.proofs.SignedLaws.{add-abs, not-ltZ}
 
 -- a position of the 64 is one of them
@@ -137,15 +138,6 @@ sums-length id i (suc n) prev s p = first ((stepAt id i prev) .read s p) refl (�
     first (value v q) e h = rw (sums-more id i prev s p n e) (last v ((sums id (suc i) n v) .read s q) (h v q))
     first (refused k) e h = rw (sums-refused id i prev s p n e) tt
 
-pub entries-le : (id : ℕ) → entries id ≤ 64
-unfolding entries
-entries-le id = go (ltb id 2) (ltb id 8)
-  where
-    go : (a b : Bool) → cond a 4 (cond b 16 64) ≤ 64
-    go true b = omega arith
-    go false true = omega arith
-    go false false = omega arith
-
 -- The loop over the steps: the sums before i are stored in the flat array a, and what is left to read is stored after them.
 pub record Stepping (id n : ℕ) (dc : ℤ) (s : List ℕ) (p : ℕ) (a₀ : List ℤ) (i : ℕ) (a : List ℤ) (sum : ℤ) (q : ℕ) : Type 0 where
   pub left : mapOutcome (sets a (64 * id + i)) ((sums id i (n - i) sum) .read s q) ≡ mapOutcome (sets a₀ (64 * id)) ((sums id 0 n dc) .read s p)
@@ -184,12 +176,6 @@ module _ (id n : ℕ) (dc : ℤ) (s : List ℕ) (p : ℕ) (a₀ : List ℤ) wher
         let m : n - i ≡ 0 = omega arith in
         let f : mapOutcome (sets a (64 * id + i)) ((sums id i (n - i) sum) .read s q) ≡ value a q = rw (m, sums-end id i sum s q) in
         sym f ∙ R .left
-
--- ---- the delta
-
-pub ueTo-read : (most : ℕ) (s : List ℕ) (p : ℕ) → (ueTo most) .read s p ≡ _then_ (readUe s p) (λ v q. cond (leb v most) (value v q) (refused 2))
-unfolding ueTo judged ue
-ueTo-read most s p = refl
 
 -- ---- what a callee stored, in the caller's answer: f of what the callee read is g of what the caller reads
 

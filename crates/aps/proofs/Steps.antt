@@ -1,9 +1,9 @@
 -- What a function's proof rewrites with: one step of each piece, by refl, and the steps of a loop that reads or writes an array.
 use mathlib.Core.Path.{_≡_, refl, sym, ap, _∙_}
-use mathlib.Core.Bool.{Bool, true, false, cond, not, _&&_}
+use mathlib.Core.Bool.{Bool, true, false, cond, not, _&&_, and-true, and-false, and-assoc}
 use mathlib.Core.List.{List, [], _∷_, _++_, append-assoc, append-nil}
 use Prim.Native.Nat.{ℕ, zero, suc, _+_, _-_, _^_, _≤_, _<_}
-use native.Mathlib.Nat.{add-zero, add-suc, suc-add, zero-add, sub-zero}
+use native.Mathlib.Nat.{add-zero, suc-add, zero-add, sub-zero}
 use native.Mathlib.Numerals.{add-one}
 use native.Mathlib.Omega.{arith}
 use lib.ListN.{length, getD, take, drop, set, replicate, length-set, length-replicate, take-append-drop}
@@ -12,10 +12,10 @@ use Rattle.bitstream.specs.Outcome.{Outcome, value, refused, _then_}
 use Rattle.bitstream.specs.Bits.{fieldAt}
 use Rattle.bitstream.specs.Fields.{readU, readUe}
 use Rattle.bitstream.proofs.FieldLaws.{field-lt}
-use lib.Dec.{eqb, ltb}
-use Rattle.aps.specs.Elements.{flag, signed, firsts, seconds, zipped, apart}
+use lib.Dec.{eqb, leb, ltb}
+use Rattle.aps.specs.Elements.{flag, ueTo, signed, firsts, seconds, zipped, apart}
 use Rattle.aps.proofs.PairLaws.{firsts-zipped, seconds-zipped}
-use Rattle.aps.specs.Codec.{Codec, u, ue, _▷_, via, judged, Inferred, when, eachFrom, each, consOk, consEmit}
+use Rattle.aps.specs.Codec.{Codec, u, ue, _▷_, via, judged, Inferred, when, eachFrom, each}
 
 pub u-read : (n : ℕ) (s : List ℕ) (p : ℕ) → (u n) .read s p ≡ value (fieldAt s p n) (p + n)
 unfolding u readU
@@ -35,6 +35,10 @@ module _ {A B : Type 0} where
 pub u-ok : (n v : ℕ) → (u n) .ok v ≡ ltb v (2 ^ n)
 unfolding u
 u-ok n v = refl
+
+pub ueTo-read : (most : ℕ) (s : List ℕ) (p : ℕ) → (ueTo most) .read s p ≡ _then_ (readUe s p) (λ v q. cond (leb v most) (value v q) (refused 2))
+unfolding ueTo judged ue
+ueTo-read most s p = refl
 
 pub flag-read : (s : List ℕ) (p : ℕ) → flag .read s p ≡ value (not (eqb (fieldAt s p 1) 0)) (p + 1)
 unfolding flag via u readU
@@ -154,11 +158,7 @@ module _ {A : Type 0} (k : ℕ → Codec A) where
   each-ok i (suc n) m [] ys e = absurd (omega arith)
   each-ok i (suc n) m (x ∷ xs) ys e =
       let f : suc i + n ≡ i + suc n = omega arith in
-      rw (suc-add n m, each-ok (suc i) n m xs ys (omega arith), f) (and-assoc ((k i) .ok x) ((eachFrom (suc i) n k) .ok xs) ((eachFrom (i + suc n) m k) .ok ys))
-    where
-      and-assoc : (a b c : Bool) → (a && (b && c)) ≡ ((a && b) && c)
-      and-assoc true b c = refl
-      and-assoc false b c = refl
+      rw (suc-add n m, each-ok (suc i) n m xs ys (omega arith), f) (sym (and-assoc ((k i) .ok x) ((eachFrom (suc i) n k) .ok xs) ((eachFrom (i + suc n) m k) .ok ys)))
 
 replicate-add : {A : Type 0} (n m : ℕ) (v : A) → replicate (n + m) v ≡ replicate n v ++ replicate m v
 replicate-add zero m v = rw (zero-add m)
@@ -289,10 +289,6 @@ module _ {A : Type 0} (k : ℕ → Codec A) (d : A) (a : List A) (i : ℕ) (h : 
   pub ok-more : (eachFrom 0 (i + 1) k) .ok (take (i + 1) a) ≡ ((eachFrom 0 i k) .ok (take i a) && (k i) .ok (getD a i d))
   unfolding eachFrom
   ok-more = rw (take-more, each-ok k 0 i 1 (take i a) (getD a i d ∷ []) taken, zero-add i) (ap (λ (b : Bool). (eachFrom 0 i k) .ok (take i a) && b) (and-true ((k i) .ok (getD a i d))))
-    where
-      and-true : (b : Bool) → (b && true) ≡ b
-      and-true true = refl
-      and-true false = refl
 
   -- an entry that is refused
   pub ok-refused : (N : ℕ) → length a ≡ N → (k i) .ok (getD a i d) ≡ false → (each N k) .ok a ≡ false
@@ -301,7 +297,3 @@ module _ {A : Type 0} (k : ℕ → Codec A) (d : A) (a : List A) (i : ℕ) (h : 
       let m : N ≡ i + suc (N - suc i) = omega arith in
       ap (λ (l : List A). (eachFrom 0 N k) .ok l) (split-at a i d h) ∙ ap (λ (n : ℕ). (eachFrom 0 n k) .ok (take i a ++ getD a i d ∷ drop (suc i) a)) m
       ∙ each-ok k 0 i (suc (N - suc i)) (take i a) (getD a i d ∷ drop (suc i) a) taken ∙ rw (zero-add i, f) (and-false ((eachFrom 0 i k) .ok (take i a)))
-    where
-      and-false : (b : Bool) → (b && false) ≡ false
-      and-false true = refl
-      and-false false = refl

@@ -8,13 +8,12 @@ use borrow.Author.Tests.{ltb-false, le-ltb}
 use lib.Dec.{ltb}
 use lib.ListN.{length, take, drop, getD, length-drop, length-append}
 use lib.Seq.{take-append-seam, take-all}
-use Rattle.bitstream.specs.Outcome.{Outcome, value, refused, number, _then_}
-use Rattle.bitstream.specs.Escapes.{unescape, putBytes, ebspToRbsp}
+use Rattle.bitstream.specs.Outcome.{value, refused}
+use Rattle.bitstream.specs.Escapes.{putBytes, ebspToRbsp}
 use Rattle.bitstream.proofs.CodeLaws.{value-refused}
 use Rattle.bitstream.proofs.EscapeLaws.{unescape-most}
 use Rattle.aps.specs.Rbsp.{readRbsp, parseApsRbsp}
-use Rattle.aps.specs.Unit.{isAps, rbspOf, judgedUnit, parseAps, workOf, workAfter}
-use Rattle.aps.specs.declared.aps.VvcAps.{VvcAps}
+use Rattle.aps.specs.Unit.{isAps, rbspOf, judgedUnit, parseAps, workAfter}
 use Rattle.aps.proofs.RbspSteps.{in-limits}
 
 -- the bytes after the header

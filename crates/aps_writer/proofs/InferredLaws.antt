@@ -1,20 +1,19 @@
 -- What is inferred where nothing is sent, for each kind: the set that a written one is read back as.
-use mathlib.Core.Path.{_≡_, refl, ap, _∙_}
+use mathlib.Core.Path.{_≡_, refl, ap}
 use mathlib.Core.Bool.{Bool, true, false, cond}
-use mathlib.Core.List.{List, [], map}
-use Prim.Native.Nat.{ℕ, zero, suc, _+_, _*_, _-_, _<_}
-use native.Mathlib.Nat.{add-zero, suc-add, add-suc, zero-add}
+use mathlib.Core.List.{List, []}
+use Prim.Native.Nat.{ℕ, _*_, _-_, _<_}
 use native.Mathlib.Omega.{arith}
 use borrow.Author.Tests.{ltb-true}
 use lib.Dec.{ltb}
 use lib.IntN.{ℤ, pos}
 use lib.ListN.{length, getD, take, drop, List·getD-map}
-use Rattle.aps.specs.ScalingSyntax.{entries, idCoded, Entry, noEntry, filled, keep, looked, tabulate, look}
+use Rattle.aps.specs.ScalingSyntax.{entries, idCoded, Entry, noEntry, filled, keep, looked, look}
 use Rattle.aps.specs.ApsSyntax.{zeroAlf, zeroLmcs, zeroScaling, Payload, kindOf, alfIn, lmcsIn, scalingIn, toAps, payloadOf, fromAps, inferred}
 use Rattle.aps.specs.declared.scaling_list.VvcScalingListData.{VvcScalingListData}
 use Rattle.aps.specs.declared.aps.ApsKind.{ApsKind}
 use Rattle.aps.specs.declared.aps.VvcAps.{VvcAps}
-use Rattle.aps.proofs.KeepLaws.{kept-row, kept-dc}
+use Rattle.aps.proofs.KeepLaws.{kept-row, kept-dc, lookedAt, look-at, length-look}
 
 -- the set of a payload, with a's own fields beside it
 abbrev made : VvcAps → Payload → VvcAps
@@ -79,29 +78,6 @@ entryOf d id = (
     (getD (d .«pred_id_delta») id 0, (cond (ltb 13 id) (getD (d .«dc_coef») (id - 14) (pos 0)) (pos 0), take 64 (drop (id * 64) (d .«scaling_list»)))),
   ),
 )
-
--- what is looked at of an id
-abbrev lookedAt : Bool → VvcScalingListData → ℕ → Entry
-lookedAt chroma d id =
-    looked chroma id (getD (d .«copy_mode_flag») id true) (getD (d .«pred_mode_flag») id false) (getD (d .«pred_id_delta») id 0)
-    (getD (d .«dc_coef») (id - 14) (pos 0)) (take 64 (drop (id * 64) (d .«scaling_list»)))
-
-getD-tabulate : {A : Type 0} (i n : ℕ) (f : ℕ → A) (j : ℕ) (d : A) → j < n → getD (tabulate i n f) j d ≡ f (i + j)
-getD-tabulate i zero f j d h = absurd (omega arith)
-getD-tabulate i (suc n) f zero d h = rw (add-zero i)
-getD-tabulate i (suc n) f (suc j) d h = getD-tabulate (suc i) n f j d (omega arith) ∙ rw (suc-add i j, add-suc i j)
-
-look-at : (chroma : Bool) (d : VvcScalingListData) (id : ℕ) (e : Entry) → id < 28 → getD (look chroma d) id e ≡ lookedAt chroma d id
-unfolding look
-look-at chroma d id e h = getD-tabulate 0 28 (lookedAt chroma d) id e h ∙ rw (zero-add id)
-
-length-tabulate : {A : Type 0} (i n : ℕ) (f : ℕ → A) → length (tabulate i n f) ≡ n
-length-tabulate i zero f = refl
-length-tabulate i (suc n) f = ap suc (length-tabulate (suc i) n f)
-
-length-look : (chroma : Bool) (d : VvcScalingListData) → length (look chroma d) ≡ 28
-unfolding look
-length-look chroma d = length-tabulate 0 28 (lookedAt chroma d)
 
 -- an id's own, as it is read back: what is looked at, the list filled up with 0
 pub entry-back : (chroma : Bool) (d : VvcScalingListData) (id : ℕ) → id < 28 → entryOf (keep (look chroma d)) id

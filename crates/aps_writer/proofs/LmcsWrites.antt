@@ -1,38 +1,30 @@
 -- The parts of lmcs_data( ) written one after another.
-use borrow.Author.Tests.{le-leb, eq-eqb}
+use borrow.Author.Tests.{le-leb}
 use mathlib.Core.Path.{_≡_, refl, ap, _∙_}
-use mathlib.Core.Bool.{Bool, true, false, not, _&&_}
-use mathlib.Core.List.{List, [], _∷_}
-use Prim.Native.Nat.{ℕ, zero, suc, _+_, _≤_}
+use mathlib.Core.Bool.{Bool, true, false, not, _&&_, and-false}
+use mathlib.Core.List.{List}
+use Prim.Native.Nat.{ℕ, _+_, _≤_}
 use native.Mathlib.Omega.{arith}
 use lib.Dec.{leb, eqb}
-use lib.ListN.{length, drop}
-use Rattle.aps.specs.Codec.{Codec, u, ue, _▷_, via, judged, when, each}
-use Rattle.aps.specs.Elements.{ueTo, signed, noSigned, firsts, seconds, zipped, apart}
-use Rattle.aps.specs.LmcsSyntax.{inRange, codedFrom, lmcsHead, lmcsCodewords, lmcsChroma, lmcsSyntax, toLmcs, fromLmcs, lmcs}
-use Rattle.aps.specs.Reading.{outcomeStop}
-use Rattle.aps.specs.Stops.{after, Spans}
-use Rattle.aps_writer.specs.Writing.{writes, Wrote, unsent}
+use lib.ListN.{length}
+use Rattle.aps.specs.Codec.{u, ue, _▷_, via, judged, when, each}
+use Rattle.aps.specs.Elements.{ueTo, signed, noSigned, zipped}
+use Rattle.aps.specs.LmcsSyntax.{inRange, lmcsHead, lmcsCodewords, lmcsChroma, lmcsSyntax, toLmcs, fromLmcs, lmcs}
+use Rattle.aps_writer.specs.Writing.{Wrote, unsent}
 use Rattle.aps.specs.declared.fields.Stop.{Stop}
-use Rattle.aps.specs.declared.fields.Stop.the-variants as Stop
 use Rattle.aps.specs.declared.lmcs.VvcLmcsData.{VvcLmcsData}
-use Rattle.aps.proofs.LmcsSteps.{in-range}
-use Rattle.aps_writer.proofs.PutLaws.{and-false}
-use Rattle.aps_writer.proofs.WriteSteps.{writes-judged, wrote-as, wrote-none, wrote-more, wrote-judged, wrote-via, wrote-▷}
+use Rattle.aps.proofs.LmcsSteps.{in-range, bin}
+use Rattle.aps_writer.proofs.WriteSteps.{writes-judged, wrote-as, wrote-judged, wrote-via, wrote-▷}
+use Rattle.aps_writer.proofs.SentWrites.{unsent-both, when-unsent}
+use Rattle.aps_writer.proofs.ArrayWrites.{wrote-apart}
 
 -- ---- a magnitude and its sign that are not sent
 
--- two values that are not sent are as one pair
-unsent-both : (from : Stop) (a b : Bool) → unsent (unsent from a) b ≡ unsent from (a && b)
-unsent-both (Stop.End p) true b = refl
-unsent-both (Stop.End p) false b = refl
-unsent-both (Stop.Refused e) a b = refl
-
+-- a magnitude and its sign that are not sent are both 0, or they are refused
 pub signed-none : (n abs : ℕ) (sign : Bool) (from mid to : Stop) (out : List ℕ) → mid ≡ unsent from (eqb abs 0) → to ≡ unsent mid (not sign)
     → Wrote (when false noSigned (signed (u n))) (abs, sign) (n + 1) from to out out
 signed-none n abs sign from mid to out e f =
-    wrote-more (when false noSigned (signed (u n))) (abs, sign) 0 (n + 1) (omega arith)
-    (wrote-none noSigned (signed (u n)) (abs, sign) from to out (f ∙ ap (λ (t : Stop). unsent t (not sign)) e ∙ unsent-both from (eqb abs 0) (not sign)))
+    when-unsent noSigned (signed (u n)) (abs, sign) (n + 1) refl (f ∙ ap (λ (t : Stop). unsent t (not sign)) e ∙ unsent-both from (eqb abs 0) (not sign))
 
 -- ---- the head
 
@@ -41,6 +33,7 @@ ue-wrote : (most v m : ℕ) {from to : Stop} {out out′ : List ℕ} → v ≤ m
 unfolding ueTo
 ue-wrote most v m {out = out} l = wrote-as (judged (λ v. leb v most) ue) v m ue v λ p. writes-judged (λ v. leb v most) ue v out p ∙ rw (le-leb v most l)
 
+-- three values in range are the head
 pub head-wrote : (min max prec : ℕ) {a b c d : Stop} {o o₁ o₂ o₃ : List ℕ} → inRange (min, (max, prec)) ≡ true
     → Wrote (ueTo 15) min 9 a b o o₁ → Wrote (ueTo 15) max 9 b c o₁ o₂ → Wrote (ueTo 14) prec 7 c d o₂ o₃
     → Wrote lmcsHead (min, (max, prec)) 25 a d o o₃
@@ -52,33 +45,20 @@ head-wrote min max prec t v w x =
 
 -- ---- the codewords
 
-module _ {A B : Type 0} where
-  pub zipped-end : (a : List A) (b : List B) (n : ℕ) → length a ≡ n → drop n (zipped a b) ≡ []
-  zipped-end [] b zero e = refl
-  zipped-end [] b (suc n) e = refl
-  zipped-end (v ∷ a) b zero e = absurd (omega arith)
-  zipped-end (v ∷ a) [] (suc n) e = refl
-  zipped-end (v ∷ a) (w ∷ b) (suc n) e = zipped-end a b n (omega arith)
-
--- a bin as the head says
-abbrev pub bin : ℕ → ℕ → ℕ → ℕ → Codec (ℕ × Bool)
-bin min max prec i = when (codedFrom min max i) noSigned (signed (u (prec + 1)))
-
-pub codewords-wrote : (min max prec : ℕ) (abs : List ℕ) (sign : List Bool) {from to : Stop} {out out′ : List ℕ} → length abs ≡ length sign
-    → outcomeStop to out′ ≡ after from (writes (each 16 (bin min max prec)) (zipped abs sign) out) → Spans from to 256
-    → Wrote (lmcsCodewords (min, (max, prec))) (abs, sign) 256 from to out out′
-unfolding apart
-codewords-wrote min max prec abs sign e w s =
-    wrote-via (λ l. (firsts l, seconds l)) (λ x. zipped (x .0) (x .1)) (λ x. eqb (length (x .0)) (length (x .1))) (each 16 (bin min max prec)) (abs, sign) 256
-    (eq-eqb (length abs) (length sign) e) (record { answer = w; within = s })
+-- the bins of two arrays are the codewords
+pub codewords-wrote : (min max prec : ℕ) (abs : List ℕ) (sign : List Bool) {from to : Stop} {out out′ : List ℕ} → length sign ≡ length abs
+    → Wrote (each 16 (bin min max prec)) (zipped abs sign) 256 from to out out′ → Wrote (lmcsCodewords (min, (max, prec))) (abs, sign) 256 from to out out′
+codewords-wrote min max prec abs sign e w = wrote-apart (each 16 (bin min max prec)) abs sign 256 e w
 
 -- ---- the whole
 
+-- a set whose head is out of range is not taken
 pub lmcs-out-of-range : (chroma : Bool) (d : VvcLmcsData)
     → inRange (d .«lmcs_min_bin_idx», (d .«lmcs_delta_max_bin_idx», d .«lmcs_delta_cw_prec_minus1»)) ≡ false → (lmcs chroma) .ok d ≡ false
 unfolding lmcs via fromLmcs lmcsSyntax _▷_ judged
 lmcs-out-of-range chroma d e = rw (e, and-false (ue .ok (d .«lmcs_min_bin_idx») && (ue .ok (d .«lmcs_delta_max_bin_idx») && ue .ok (d .«lmcs_delta_cw_prec_minus1»))))
 
+-- the head, the codewords and the chroma delta are the whole
 pub lmcs-wrote : (chroma : Bool) (d : VvcLmcsData) {a b c e : Stop} {o o₁ o₂ o₃ : List ℕ}
     → Wrote lmcsHead (d .«lmcs_min_bin_idx», (d .«lmcs_delta_max_bin_idx», d .«lmcs_delta_cw_prec_minus1»)) 25 a b o o₁
     → Wrote (lmcsCodewords (d .«lmcs_min_bin_idx», (d .«lmcs_delta_max_bin_idx», d .«lmcs_delta_cw_prec_minus1»))) (d .«lmcs_delta_abs_cw», d .«lmcs_delta_sign_cw_flag») 256 b c o₁ o₂

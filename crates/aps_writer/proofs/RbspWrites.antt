@@ -1,25 +1,22 @@
--- A set's payload, the set as an RBSP, and bytes put at the start of an output.
-use borrow.Author.Tests.{lt-ltb, le-ltb, le-leb, lt-leb, ltb-true, ltb-false, eqb-true}
-use borrow.Rule.Slice.PartMut.{midOf, putMid, put-same}
+-- A set's payload, the set, and its RBSP.
+use borrow.Author.Tests.{le-leb, lt-leb}
 use mathlib.Core.Path.{_≡_, refl, sym, ap, _∙_}
-use mathlib.Core.Bool.{Bool, true, false, cond, _||_}
-use mathlib.Core.List.{List, [], _∷_, _++_, append-nil}
-use Prim.Native.Nat.{ℕ, zero, suc, _+_, _-_, _*_, _/_, _%_, _≤_, _<_}
+use mathlib.Core.Bool.{Bool, true, false, cond, and-false}
+use mathlib.Core.List.{List}
+use Prim.Native.Nat.{ℕ, _+_, _-_, _/_, _%_, _≤_, _<_}
 use native.Mathlib.Nat.{zero-add}
 use native.Mathlib.Omega.{arith}
-use lib.Dec.{leb, ltb, eqb}
-use lib.ListN.{length, getD, take, drop, set, length-drop}
-use lib.Seq.{take-length, drop-length, drop-cons, take-append-seam, length-take-le}
-use Rattle.bitstream.specs.Outcome.{Outcome, value, refused, left, _then_}
+use lib.Dec.{leb}
+use lib.ListN.{length, getD, take, set}
+use lib.Seq.{take-append-seam}
+use Rattle.bitstream.specs.Outcome.{value, refused}
 use Rattle.bitstream.specs.Bits.{putBits, pack}
 use Rattle.bitstream.specs.Fields.{trailingBits}
 use Rattle.bitstream.specs.Writing.{writeTrailingAt}
-use Rattle.bitstream.specs.Escapes.{escape, putBytes, rbspToEbsp}
 use Rattle.bitstream.proofs.CodeLaws.{value-refused}
-use Rattle.bitstream.proofs.WriteLaws.{wrote, puts-append, due-some, put-fits, length-trailing}
+use Rattle.bitstream.proofs.WriteLaws.{puts-append, due-some, put-fits, length-trailing}
 use Rattle.bitstream.proofs.KeepLaws.{length-puts}
 use Rattle.bitstream.proofs.PackLaws.{length-pack, puts-pack}
-use Rattle.bitstream.proofs.Filling.{Filling, step, finish}
 use Rattle.aps.specs.Codec.{u, _▷_, via, judged, provided}
 use Rattle.aps.specs.Elements.{flag}
 use Rattle.aps.specs.AlfSyntax.{alf}
@@ -27,16 +24,14 @@ use Rattle.aps.specs.LmcsSyntax.{lmcs}
 use Rattle.aps.specs.ScalingSyntax.{Entry, scalingSyntax}
 use Rattle.aps.specs.ApsSyntax.{ofAlf, ofLmcs, ofScaling, alfIn, lmcsIn, entriesIn, isAlf, isLmcs, isScaling, payload, ApsData, apsSyntax, toAps, numberOf, payloadOf, fromAps, aps}
 use Rattle.aps.specs.Rbsp.{rbspBits, rbspBytes}
-use Rattle.aps.specs.Unit.{isAps}
 use Rattle.aps.specs.Stops.{StopsBy}
-use Rattle.aps_writer.specs.Writing.{writes, Wrote, bytesDue, unitOf, writeAps, writeApsNal}
+use Rattle.aps_writer.specs.Writing.{writes, Wrote, bytesDue}
 use Rattle.aps.specs.declared.aps.ApsKind.{ApsKind}
 use Rattle.aps.specs.declared.aps.VvcAps.{VvcAps}
 use Rattle.aps.specs.declared.fields.Stop.{Stop}
 use Rattle.aps.specs.declared.fields.Stop.the-variants as Stop
 use Rattle.aps.specs.declared.alf.VvcAlfData.{VvcAlfData}
 use Rattle.aps.specs.declared.lmcs.VvcLmcsData.{VvcLmcsData}
-use Rattle.aps_writer.proofs.PutLaws.{and-false}
 use Rattle.aps.proofs.RbspLaws.{length-rbsp, bits-rbsp}
 use Rattle.aps_writer.proofs.WriteSteps.{writes-via, wrote-as, wrote-▷, wrote-more, wrote-judged, wrote-provided, wrote-via}
 
@@ -82,6 +77,7 @@ module _ (id : ℕ) (chroma : Bool) where
 abbrev sent : VvcAps → ApsKind → Bool → ApsData
 sent a k x = (numberOf k, (a .«aps_adaptation_parameter_set_id», (a .«aps_chroma_present_flag», (payloadOf k (a .«aps_chroma_present_flag») (a .alf) (a .lmcs) (a .scaling), x))))
 
+-- a plain set of a kind is sent as that kind
 sent-is : (a : VvcAps) (k : ApsKind) → a .kind ≡ k → a .«aps_extension_flag» ≡ false → fromAps a ≡ sent a k false
 unfolding fromAps
 sent-is a k e f = ap (λ (k : ApsKind). sent a k (a .«aps_extension_flag»)) e ∙ ap (sent a k) f
@@ -129,6 +125,7 @@ module _ (set : VvcAps) where
   due-extended x = sym (ap (λ (b : Bool). cond b (refused 3) (cond (aps .ok set) (value (rbspBytes set) (length (rbspBytes set))) (refused 2))) x)
 
   module _ (plain : set .«aps_extension_flag» ≡ false) where
+    -- of a set with extension flag 0 the RBSP is due, where the set is taken
     due-plain : bytesDue set ≡ cond (aps .ok set) (value (rbspBytes set) (length (rbspBytes set))) (refused 2)
     unfolding bytesDue
     due-plain = ap (λ (b : Bool). cond b (refused 3) (cond (aps .ok set) (value (rbspBytes set) (length (rbspBytes set))) (refused 2))) plain
@@ -165,6 +162,7 @@ module _ (set : VvcAps) where
           let m : length out₁ ≡ 4096 = ap length (set-put .1) ∙ length-puts out 0 (aps .emit set) ∙ room in
           put-fits out₁ at (trailingBits at) (omega arith) (omega (arith, due-some at (trailingBits at) (omega arith)))
 
+      -- so the end is never refused
       pub end-written : (n : ℕ) {T : Type 0} → refused n ≡ writeTrailingAt out₁ at → T
       end-written n f = absurd (value-refused (sym (f ∙ end-put)))
 
@@ -186,166 +184,18 @@ module _ (set : VvcAps) where
           = rw (s, sym w, puts-pack out b (bits-rbsp set o) bytes (omega arith)) (take-append-seam (pack b) _) in
           rw (t, s) (sym (due-plain ∙ rw o))
 
--- ---- bytes put at the start of an output
+module _ (a : VvcAps) where
+  -- the bytes of a set that is taken are its RBSP
+  pub due-taken : a .«aps_extension_flag» ≡ false → aps .ok a ≡ true → bytesDue a ≡ value (rbspBytes a) (length (rbspBytes a))
+  due-taken x o = due-plain a x ∙ rw o
 
-module _ (out l : List ℕ) where
-  out-short : length out < length l → putBytes out l ≡ refused 5
-  unfolding putBytes
-  out-short h = rw (lt-ltb (length out) (length l) h)
-
-  out-fits : length l ≤ length out → putBytes out l ≡ value (l ++ drop (length l) out) (length l)
-  unfolding putBytes
-  out-fits h = rw (le-ltb (length out) (length l) h)
-
-  -- what is put there if it is put, and if not
-  put-value : (after : List ℕ) (n : ℕ) → value after n ≡ putBytes out l → (after ≡ l ++ drop (length l) out) × (n ≡ length l) × (length l ≤ length out)
-  unfolding putBytes
-  put-value after n = go (ltb (length out) (length l)) refl
+  -- a set of which bytes are due is taken, and they are its RBSP
+  pub taken-due : (l : List ℕ) (n : ℕ) → bytesDue a ≡ value l n → (a .«aps_extension_flag» ≡ false) × (aps .ok a ≡ true) × (l ≡ rbspBytes a) × (n ≡ length (rbspBytes a))
+  unfolding bytesDue
+  taken-due l n = go (a .«aps_extension_flag») (aps .ok a) refl refl
     where
-      go : (b : Bool) → ltb (length out) (length l) ≡ b → value after n ≡ cond b (refused 5) (value (l ++ drop (length l) out) (length l))
-          → (after ≡ l ++ drop (length l) out) × (n ≡ length l) × (length l ≤ length out)
-      go true t e = absurd (value-refused e)
-      go false t e = (cc, cc, ltb-false _ _ t)
-
-  put-refused : (n : ℕ) → refused n ≡ putBytes out l → (n ≡ 5) × (length out < length l)
-  unfolding putBytes
-  put-refused n = go (ltb (length out) (length l)) refl
-    where
-      go : (b : Bool) → ltb (length out) (length l) ≡ b → refused n ≡ cond b (refused 5) (value (l ++ drop (length l) out) (length l)) → (n ≡ 5) × (length out < length l)
-      go true t e = (cc, ltb-true _ _ t)
-      go false t e = absurd (value-refused (sym e))
-
-  -- too little room: the output stays
-  pub not-copied : length out < length l → (refused 5 ≡ putBytes out l) × (out ≡ left out (putBytes out l))
-  not-copied h = wrote out (out-short h)
-
--- the loop has copied the bytes below i
-pub copied-more : (out₀ out bytes : List ℕ) (i : ℕ) → i < length bytes → length bytes ≤ length out₀ → Filling out₀ out i (drop i bytes) bytes
-    → Filling out₀ (set out i (getD bytes i 0)) (i + 1) (drop (i + 1) bytes) bytes
-copied-more out₀ out bytes i h l f =
-    let e : i + 1 ≡ suc i = omega arith in
-    rw e (rw e at (step (rw (drop-cons bytes i 0 h) at f) l))
-
-pub copied : (out₀ out bytes : List ℕ) (i : ℕ) → length bytes ≤ i → i ≤ length bytes → length bytes ≤ length out₀ → Filling out₀ out i (drop i bytes) bytes
-    → (value out (length bytes) ≡ putBytes out₀ bytes) × (out ≡ left out₀ (putBytes out₀ bytes))
-copied out₀ out bytes i h k l f =
-    let e : i ≡ length bytes = omega arith in
-    let g : Filling out₀ out (length bytes) [] bytes = rw (e, drop-length bytes) at f in
-    let w : putBytes out₀ bytes ≡ value out (length bytes) = out-fits out₀ bytes l ∙ rw (finish g .1) in
-    wrote out₀ w
-
--- ---- a unit
-
--- the two bytes of the header before what was put after them
-head-set : (out last e : List ℕ) (t : ℕ) → 2 ≤ length out → last ≡ e ++ drop (length e) (midOf 2 (length out - 2) out)
-    → set (set (putMid 2 (length out - 2) out last) 0 0) 1 t ≡ (0 ∷ t ∷ e) ++ drop (length (0 ∷ t ∷ e)) out
-head-set [] last e t h w = absurd (omega arith)
-head-set (x ∷ []) last e t h w = absurd (omega arith)
-head-set (x ∷ y ∷ l) last e t h w =
-    let n : suc (suc (length l)) - 2 ≡ length l = omega arith in
-    let v : last ≡ e ++ drop (length e) l = rw (n, take-length l) at w in
-    rw (n, v, drop-length l, append-nil (e ++ drop (length e) l))
-
-module _ (out bytes : List ℕ) (type : ℕ) where
-  unit-length : length (unitOf type bytes) ≡ 2 + length (escape bytes)
-  unfolding unitOf
-  unit-length = omega arith
-
-  -- no room for the header
-  pub unit-short : length out < 2 → (refused 5 ≡ putBytes out (unitOf type bytes)) × (out ≡ left out (putBytes out (unitOf type bytes)))
-  unit-short h = not-copied out (unitOf type bytes) (omega (arith, unit-length))
-
-  module _ (h : 2 ≤ length out) (b : length bytes ≤ 4096) where
-    abbrev rest : List ℕ
-    rest = midOf 2 (length out - 2) out
-
-    rest-length : length rest ≡ length out - 2
-    rest-length = length-take-le (length out - 2) (drop 2 out) (omega (arith, length-drop 2 out))
-
-    escaped : rbspToEbsp bytes rest ≡ putBytes rest (escape bytes)
-    unfolding rbspToEbsp
-    escaped = rw (le-ltb 65536 (length bytes) (omega arith))
-
-    module _ (last : List ℕ) (n : ℕ) where
-      pub unit-within : value last n ≡ rbspToEbsp bytes rest → n + 2 ≤ length out
-      unit-within e =
-          let (f, g, l) = put-value rest (escape bytes) last n (e ∙ escaped) in
-          omega (arith, rest-length)
-
-      pub unit-put : value last n ≡ rbspToEbsp bytes rest
-          → (value (set (set (putMid 2 (length out - 2) out last) 0 0) 1 (type * 8 + 1)) (n + 2) ≡ putBytes out (unitOf type bytes))
-          × (set (set (putMid 2 (length out - 2) out last) 0 0) 1 (type * 8 + 1) ≡ left out (putBytes out (unitOf type bytes)))
-      unfolding unitOf
-      unit-put e =
-          let (f, g, l) = put-value rest (escape bytes) last n (e ∙ escaped) in
-          let s = head-set out last (escape bytes) (type * 8 + 1) h f in
-          let m : n + 2 ≡ suc (suc (length (escape bytes))) = omega arith in
-          wrote out (out-fits out (0 ∷ (type * 8 + 1) ∷ escape bytes) (omega (arith, rest-length)) ∙ rw (s, m))
-
-    -- no room for what follows the header
-    pub unit-refused : (last : List ℕ) (n : ℕ) → refused n ≡ rbspToEbsp bytes rest → last ≡ left rest (rbspToEbsp bytes rest)
-        → (refused n ≡ putBytes out (unitOf type bytes)) × (putMid 2 (length out - 2) out last ≡ left out (putBytes out (unitOf type bytes)))
-    unit-refused last n e k =
-        let (f, l) = put-refused rest (escape bytes) n (e ∙ escaped) in
-        let s : last ≡ rest = k ∙ ap (left rest) (sym e) in
-        let p : putMid 2 (length out - 2) out last ≡ out = rw s (put-same 2 (length out - 2) out) in
-        let w = not-copied out (unitOf type bytes) (omega (arith, unit-length, rest-length)) in
-        (ap refused f ∙ w .0, p ∙ w .1)
-
--- ---- the two calls
-
--- a call that answers and leaves what another does
-pub answered-as : (out : List ℕ) {a o w : Outcome (List ℕ)} {last : List ℕ} → w ≡ o → (a ≡ o) × (last ≡ left out o) → (a ≡ w) × (last ≡ left out w)
-answered-as out e h = (h .0 ∙ sym e, h .1 ∙ ap (left out) (sym e))
-
--- the unit types of a set are below 32
-pub aps-type : (type : ℕ) → isAps type ≡ true → type < 32
-aps-type type e = go (eqb type 17) (eqb type 18) refl refl e
-  where
-    go : (a b : Bool) → eqb type 17 ≡ a → eqb type 18 ≡ b → (a || b) ≡ true → type < 32
-    go true b f g e = let h = eqb-true type 17 f in omega arith
-    go false true f g e = let h = eqb-true type 18 g in omega arith
-    go false false f g e = absurd (let z : _≡_ {A = ℕ} 0 1 = cc in omega arith)
-
-module _ (set : VvcAps) (out : List ℕ) where
-  pub nal-type : (type : ℕ) → isAps type ≡ false → (refused 2 ≡ writeApsNal set type out) × (out ≡ left out (writeApsNal set type out))
-  unfolding writeApsNal
-  nal-type type t = wrote out (rw t)
-
-  -- a set that is refused
-  module _ (n : ℕ) (e : refused n ≡ bytesDue set) where
-    pub aps-refused : (refused n ≡ writeAps set out) × (out ≡ left out (writeAps set out))
-    unfolding writeAps
-    aps-refused = wrote out (ap (λ (o : Outcome (List ℕ)). o then λ bytes n. putBytes out bytes) (sym e))
-
-    pub nal-refused : (type : ℕ) → isAps type ≡ true → (refused n ≡ writeApsNal set type out) × (out ≡ left out (writeApsNal set type out))
-    unfolding writeApsNal
-    nal-refused type t = wrote out (rw t (ap (λ (o : Outcome (List ℕ)). o then λ bytes n. putBytes out (unitOf type bytes)) (sym e)))
-
-  -- one whose bytes are l
-  module _ (l : List ℕ) (n : ℕ) (e : value l n ≡ bytesDue set) where
-    pub due-length : length l ≡ n
-    unfolding bytesDue
-    due-length = go (set .«aps_extension_flag») (aps .ok set) e
-      where
-        go : (a b : Bool) → value l n ≡ cond a (refused 3) (cond b (value (rbspBytes set) (length (rbspBytes set))) (refused 2)) → length l ≡ n
-        go true b f = absurd (value-refused f)
-        go false true f =
-            let x : l ≡ rbspBytes set = cc in
-            let y : n ≡ length (rbspBytes set) = cc in
-            ap length x ∙ sym y
-        go false false f = absurd (value-refused f)
-
-    pub aps-bytes : writeAps set out ≡ putBytes out l
-    unfolding writeAps
-    aps-bytes = ap (λ (o : Outcome (List ℕ)). o then λ bytes n. putBytes out bytes) (sym e)
-
-    pub nal-bytes : (type : ℕ) → isAps type ≡ true → writeApsNal set type out ≡ putBytes out (unitOf type l)
-    unfolding writeApsNal
-    nal-bytes type t = rw t (ap (λ (o : Outcome (List ℕ)). o then λ bytes n. putBytes out (unitOf type bytes)) (sym e))
-
--- bytes that are counted are there
-pub taken-within : (n : ℕ) (l : List ℕ) → length (take n l) ≡ n → n ≤ length l
-taken-within zero l e = omega arith
-taken-within (suc n) [] e = absurd (omega arith)
-taken-within (suc n) (x ∷ l) e = let h = taken-within n l (omega arith) in omega arith
+      go : (x o : Bool) → a .«aps_extension_flag» ≡ x → aps .ok a ≡ o → cond x (refused 3) (cond o (value (rbspBytes a) (length (rbspBytes a))) (refused 2)) ≡ value l n
+          → (a .«aps_extension_flag» ≡ false) × (aps .ok a ≡ true) × (l ≡ rbspBytes a) × (n ≡ length (rbspBytes a))
+      go true o ex eo e = absurd (value-refused (sym e))
+      go false true ex eo e = let w : rbspBytes a ≡ l = cc in let m : length (rbspBytes a) ≡ n = cc in (ex, eo, sym w, sym m)
+      go false false ex eo e = absurd (value-refused (sym e))

@@ -1,15 +1,15 @@
 -- Demand 2: a set that was read is written as the bytes it was read from, and a set that was written is read back, as an RBSP and as a unit.
 use mathlib.Core.Path.{_≡_, refl, sym, ap, _∙_}
-use mathlib.Core.Bool.{Bool, true, false, cond, _||_}
-use mathlib.Core.List.{List, [], _∷_, _++_, append-nil}
-use Prim.Native.Nat.{ℕ, suc, _+_, _*_, _-_, _/_, _%_, _≤_, _<_}
+use mathlib.Core.Bool.{Bool, true, false, cond}
+use mathlib.Core.List.{List, [], _++_, append-nil}
+use Prim.Native.Nat.{ℕ, suc, _+_, _*_, _-_, _/_, _≤_, _<_}
 use native.Mathlib.Omega.{arith}
-use borrow.Author.Tests.{ltb-true, ltb-false, le-ltb, lt-ltb, eqb-true, eqb-false}
-use lib.Dec.{ltb, eqb, lit≤}
-use lib.ListN.{length, getD, take, drop, length-append, take-append-drop}
+use borrow.Author.Tests.{le-ltb}
+use lib.Dec.{ltb, lit≤}
+use lib.ListN.{length, getD, take, drop, take-append-drop}
 use lib.Seq.{take-append-seam}
 use Rattle.bitstream.specs.Outcome.{Outcome, value, refused, _then_}
-use Rattle.bitstream.specs.Escapes.{escape, unescape, putBytes}
+use Rattle.bitstream.specs.Escapes.{escape, putBytes}
 use Rattle.bitstream.proofs.CodeLaws.{value-refused}
 use Rattle.bitstream.proofs.KeepLaws.{Bytes}
 use Rattle.bitstream.proofs.EscapeLaws.{unescape-of-escape, escape-most}
@@ -20,8 +20,11 @@ use Rattle.aps_writer.specs.Writing.{bytesDue, writeAps, unitOf, writeAp
 use Rattle.aps.specs.declared.aps.ApsKind.{ApsKind}
 use Rattle.aps.specs.declared.aps.VvcAps.{VvcAps}
 use Rattle.aps.proofs.RbspSteps.{in-limits}
-use Rattle.aps.proofs.RbspLaws.{mostBytes, rbsp-sound, rbsp-end, read-write, read-stands, write-read, rbsp-some, rbsp-most, rbsp-last}
+use Rattle.aps.proofs.RbspLaws.{mostBytes, rbsp-sound, read-write, write-read, rbsp-some, rbsp-most, rbsp-last}
+use Rattle.aps_writer.proofs.RbspWrites.{due-taken, taken-due}
+use Rattle.aps_writer.proofs.UnitWrites.{put-value}
 
+-- the sets of each kind have at most 2931 bytes
 most-le : (k : ApsKind) → mostBytes k ≤ 2931
 most-le ApsKind.Alf = lit≤ tt
 most-le ApsKind.Lmcs = lit≤ tt
@@ -38,36 +41,11 @@ read-limits s a q = go (ltb 65536 (length s))
     go true e = absurd (value-refused (sym e))
     go false e = e
 
-module _ (a : VvcAps) where
-  -- the bytes of a set that is taken
-  pub due-taken : a .«aps_extension_flag» ≡ false → aps .ok a ≡ true → bytesDue a ≡ value (rbspBytes a) (length (rbspBytes a))
-  unfolding bytesDue
-  due-taken x o =
-      ap (λ (b : Bool). cond b (refused 3) (cond (aps .ok a) (value (rbspBytes a) (length (rbspBytes a))) (refused 2))) x
-      ∙ ap (λ (b : Bool). cond b (value (rbspBytes a) (length (rbspBytes a))) (refused 2)) o
-
-  -- and a set of which bytes are due is taken
-  pub taken-due : (l : List ℕ) (n : ℕ) → bytesDue a ≡ value l n → (a .«aps_extension_flag» ≡ false) × (aps .ok a ≡ true) × (l ≡ rbspBytes a)
-  unfolding bytesDue
-  taken-due l n = go (a .«aps_extension_flag») (aps .ok a) refl refl
-    where
-      go : (x o : Bool) → a .«aps_extension_flag» ≡ x → aps .ok a ≡ o → cond x (refused 3) (cond o (value (rbspBytes a) (length (rbspBytes a))) (refused 2)) ≡ value l n
-          → (a .«aps_extension_flag» ≡ false) × (aps .ok a ≡ true) × (l ≡ rbspBytes a)
-      go true o ex eo e = absurd (value-refused (sym e))
-      go false true ex eo e = let w : rbspBytes a ≡ l = cc in (ex, eo, sym w)
-      go false false ex eo e = absurd (value-refused (sym e))
-
 -- bytes that were put stand at the start
-put-value : (out l after : List ℕ) (n : ℕ) → putBytes out l ≡ value after n → (n ≡ length l) × (take n after ≡ l)
-unfolding putBytes
-put-value out l after n = go (ltb (length out) (length l))
-  where
-    go : (b : Bool) → cond b (refused 5) (value (l ++ drop (length l) out) (length l)) ≡ value after n → (n ≡ length l) × (take n after ≡ l)
-    go true e = absurd (value-refused (sym e))
-    go false e =
-        let w : l ++ drop (length l) out ≡ after = cc in
-        let m : length l ≡ n = cc in
-        (sym m, rw (← m, ← w) (take-append-seam l (drop (length l) out)))
+put-start : (out l after : List ℕ) (n : ℕ) → putBytes out l ≡ value after n → (n ≡ length l) × (take n after ≡ l)
+put-start out l after n e =
+    let (w, m, h) = put-value out l after n (sym e) in
+    (m, rw (m, w) (take-append-seam l (drop (length l) out)))
 
 -- a write of a set's bytes in some form
 due-put : (a : VvcAps) (form : List ℕ → List ℕ) (out after : List ℕ) (n : ℕ) → (bytesDue a then λ bytes m. putBytes out (form bytes)) ≡ value after n
@@ -77,8 +55,8 @@ due-put a form out after n = go (bytesDue a) refl
     go : (o : Outcome (List ℕ)) → bytesDue a ≡ o → (o then λ bytes m. putBytes out (form bytes)) ≡ value after n
         → (a .«aps_extension_flag» ≡ false) × (aps .ok a ≡ true) × (n ≡ length (form (rbspBytes a))) × (take n after ≡ form (rbspBytes a))
     go (value l m) d e =
-        let (x, o, w) = taken-due a l m d in
-        let (k, t) = put-value out (form l) after n e in
+        let (x, o, w, c) = taken-due a l m d in
+        let (k, t) = put-start out (form l) after n e in
         (x, o, k ∙ ap (λ (b : List ℕ). length (form b)) w, t ∙ ap form w)
     go (refused k) d e = absurd (value-refused (sym e))
 

@@ -1,24 +1,17 @@
 -- `read_indexes`: the loop has read the first i indexes.
 use mathlib.Core.Path.{sym}
-use Prim.Native.Nat.{ℕ, _+_, _-_, _*_, _≤_}
+use Prim.Native.Nat.{_+_, _-_, _*_, _≤_}
 use native.Mathlib.Omega.{arith}
 use borrow.Author.Needs.{needs}
 use borrow.Author.Tests.{le-ltb}
 use denote.Ref.{now}
-use lib.Dec.{leb, ltb}
-use Rattle.aps.specs.Codec.{Codec, u, judged, when}
-use Rattle.aps.specs.Elements.{noNumber}
-use Rattle.aps.specs.AlfSyntax.{ceilLog2}
 use Rattle.aps.proofs.Steps.{when-read, Reading, reading-more, reading-done, reading-refused}
-use Rattle.aps.proofs.AlfSteps.{reading-from, index-taken, index-refused}
+use Rattle.aps.proofs.AlfSteps.{reading-from, index, index-taken, index-refused}
 use Rattle.aps.proofs.alf_luma.read_indexes.Statement.{statement}
 use Rattle.aps.proofs.alf_luma.read_indexes.Tie as tie
 
-abbrev index : ℕ → ℕ → Codec ℕ
-index count-1 i = when (ltb 0 count-1) noNumber (judged (λ x. leb x count-1) (u (ceilLog2 (count-1 + 1))))
-
 abbrev Inv-loop : tie.InvT-loop
-Inv-loop bytes p count-minus1 idx₀ bits at₀ i₀ idx at i = (i ≤ 25) × (at ≤ p + 32 * i) × Reading (index count-minus1) 25 0 bytes p i idx at
+Inv-loop bytes p count-minus1 idx₀ bits at₀ i₀ idx at i = (i ≤ 25) × (at ≤ p + 32 * i) × Reading (λ i. index count-minus1) 25 0 bytes p i idx at
 
 abbrev μ-loop : tie.MeasureT-loop
 μ-loop bytes p count-minus1 idx₀ bits at₀ i₀ idx at i = 25 - i
@@ -29,7 +22,7 @@ returns c =
     let a = b .args in
     let s = now (a .bytes) in
     let n = a .count-minus1 in (
-      sym (reading-done (index n) 25 0 s (a .p) 0 (a .idx .now) (a .p) (reading-from (index n) 25 0 s (a .p) (a .idx .now) (b .pre .3)) (omega arith) (λ j h l. rw (when-read, le-ltb 0 n (omega arith)))),
+      sym (reading-done (λ i. index n) 25 0 s (a .p) 0 (a .idx .now) (a .p) (reading-from (λ i. index n) 25 0 s (a .p) (a .idx .now) (b .pre .3)) (omega arith) (λ j h l. rw (when-read, le-ltb 0 n (omega arith)))),
       omega arith,
     )
 
@@ -43,7 +36,7 @@ loop-holds : tie.Need-loop-holds Inv-loop μ-loop
 loop-holds c =
     let b = c .before .before .before in
     let a = b .args in
-    (omega arith, omega arith, reading-from (index (a .count-minus1)) 25 0 (now (a .bytes)) (a .p) (a .idx .now) (b .pre .3))
+    (omega arith, omega arith, reading-from (λ i. index (a .count-minus1)) 25 0 (now (a .bytes)) (a .p) (a .idx .now) (b .pre .3))
 
 read-u-requires : tie.Need-read-u-requires Inv-loop μ-loop
 read-u-requires c κs = (omega arith, omega arith, omega arith)
@@ -56,7 +49,7 @@ returns-2 c =
     let n = a .count-minus1 in
     let k = c .before .read-u in
     let e = index-refused n (now (a .bytes)) (o .at) (l .before .ceil-log2 .result) (k .result) (l .before .ceil-log2 .ensures .0) (k .ensures) (omega arith) (c .if2 .taken) in
-    (sym (reading-refused (index n) 25 0 (now (a .bytes)) (a .p) (o .i) (o .idx) (o .at) (o .inv .2) 2 (omega arith) e), tt)
+    (sym (reading-refused (λ i. index n) 25 0 (now (a .bytes)) (a .p) (o .i) (o .idx) (o .at) (o .inv .2) 2 (omega arith) e), tt)
 
 cast-idx : tie.Need-cast-idx Inv-loop μ-loop
 cast-idx c = omega arith
@@ -85,14 +78,14 @@ loop-again c =
     let k = c .before .read-u in
     let w = l .before .ceil-log2 in
     let e = index-taken n (now (a .bytes)) (o .at) (w .result) (k .result) (w .ensures .0) (k .ensures) (omega arith) (c .if2 .left) in
-    (omega arith, omega arith, reading-more (index n) 25 0 (now (a .bytes)) (a .p) (o .i) (o .idx) (o .at) (o .inv .2) (k .result) (o .at + w .result) (omega arith) e)
+    (omega arith, omega arith, reading-more (λ i. index n) 25 0 (now (a .bytes)) (a .p) (o .i) (o .idx) (o .at) (o .inv .2) (k .result) (o .at + w .result) (omega arith) e)
 
 returns-3 : tie.Need-returns-3 Inv-loop μ-loop
 returns-3 c =
     let l = c .before in
     let a = l .before .before .before .before .args in
     let o = l .loop in
-    (sym (reading-done (index (a .count-minus1)) 25 0 (now (a .bytes)) (a .p) (o .i) (o .idx) (o .at) (o .inv .2) (omega arith) (λ j h l. absurd (omega arith))), omega arith)
+    (sym (reading-done (λ i. index (a .count-minus1)) 25 0 (now (a .bytes)) (a .p) (o .i) (o .idx) (o .at) (o .inv .2) (omega arith) (λ j h l. absurd (omega arith))), omega arith)
 
 pub read-indexes-spec : {M : Type 1} → statement M
 read-indexes-spec =

@@ -9,7 +9,7 @@ use Rattle.aps.specs.AlfSyntax.{alf}
 use Rattle.aps.specs.Reading.{outcomeStop}
 use Rattle.aps.proofs.aps.alf_set.Statement.{statement}
 use Rattle.aps.proofs.aps.alf_set.Tie as tie
-use Rattle.aps.specs.ApsSyntax.{zeroAlf, zeroLmcs, zeroScaling}
+use Rattle.aps.specs.ApsSyntax.{zeroLmcs, zeroScaling}
 use Rattle.aps.specs.declared.aps.ApsKind.{ApsKind}
 use Rattle.aps.proofs.Answers.{answered, refused-answer}
 use Rattle.aps.proofs.RbspSteps.{withExtension, setOf, alf-refused, alf-id, alf-set, set-ended, set-refused}

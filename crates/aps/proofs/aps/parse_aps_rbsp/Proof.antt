@@ -3,10 +3,8 @@ use borrow.Author.Needs.{needs}
 use Prim.Native.Nat.{ℕ, _<_}
 use mathlib.Core.Path.{_≡_, sym, _∙_}
 use denote.Ref.{now}
-use borrow.Author.Tests.{lt-ltb, le-ltb}
 use native.Mathlib.Omega.{arith}
 use Rattle.bitstream.proofs.FieldLaws.{field-lt}
-use Rattle.aps.specs.Rbsp.{parseApsRbsp}
 use Rattle.aps.proofs.Answers.{refused-answer, same-answer}
 use Rattle.aps.proofs.RbspSteps.{other-kind, in-limits, too-long}
 use Rattle.aps.proofs.aps.parse_aps_rbsp.Statement.{statement}

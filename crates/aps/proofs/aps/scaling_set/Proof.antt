@@ -9,7 +9,7 @@ use Rattle.aps.specs.ScalingSyntax.{keep, scalingSyntax}
 use Rattle.aps.specs.Reading.{outcomeStop}
 use Rattle.aps.proofs.aps.scaling_set.Statement.{statement}
 use Rattle.aps.proofs.aps.scaling_set.Tie as tie
-use Rattle.aps.specs.ApsSyntax.{zeroAlf, zeroLmcs, zeroScaling}
+use Rattle.aps.specs.ApsSyntax.{zeroAlf, zeroLmcs}
 use Rattle.aps.specs.declared.aps.ApsKind.{ApsKind}
 use Rattle.aps.proofs.Answers.{answered, refused-answer}
 use Rattle.aps.proofs.RbspSteps.{withExtension, setOf, scaling-refused, scaling-id, scaling-set, set-ended, set-refused}

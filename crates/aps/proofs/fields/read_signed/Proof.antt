@@ -1,8 +1,6 @@
 -- `read_signed`: a sign is read after a magnitude that is not 0.
 use borrow.Author.Needs.{needs}
-use mathlib.Core.Path.{_≡_, sym}
-use borrow.Author.Tests.{eq-eqb, ne-eqb}
-use denote.Ref.{now}
+use borrow.Author.Tests.{ne-eqb}
 use native.Mathlib.Omega.{arith}
 use Rattle.aps.proofs.Steps.{u-read, signed-read, flag-read}
 use Rattle.aps.proofs.fields.read_signed.Statement.{statement}

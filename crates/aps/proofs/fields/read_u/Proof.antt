@@ -1,9 +1,8 @@
 -- `read_u`: inside the limits no call of u is refused.
 use borrow.Author.Needs.{needs}
-use mathlib.Core.Path.{_≡_, sym, ap, _∙_}
+use mathlib.Core.Path.{sym, ap, _∙_}
 use denote.Ref.{now}
 use native.Mathlib.Omega.{arith}
-use Rattle.bitstream.specs.Outcome.{value}
 use Rattle.bitstream.specs.Fields.{readU}
 use Rattle.bitstream.specs.Reading.{outcomeU}
 use Rattle.bitstream.proofs.CodeLaws.{value-refused}

@@ -1,6 +1,5 @@
 -- `in_range`: each test of the definition, in its order.
 use borrow.Author.Tests.{le-leb, lt-leb}
-use native.Mathlib.Omega.{arith}
 use Rattle.aps.specs.LmcsSyntax.{inRange}
 use Rattle.aps.proofs.lmcs.in_range.Statement.{statement}
 use Rattle.aps.proofs.lmcs.in_range.Tie as tie

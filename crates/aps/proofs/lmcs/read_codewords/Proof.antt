@@ -1,24 +1,18 @@
 -- `read_codewords`: bins below i are read; those outside min to 15 - max take no bits.
-use Prim.Native.Nat.{ℕ, _+_, _-_, _*_, _≤_}
-use mathlib.Core.Path.{_≡_, sym, _∙_}
-use mathlib.Core.Bool.{Bool, false}
+use Prim.Native.Nat.{_+_, _-_, _*_, _≤_}
+use mathlib.Core.Path.{_≡_, sym}
+use mathlib.Core.Bool.{false}
 use denote.Ref.{now}
 use borrow.Author.Needs.{needs}
 use borrow.Author.Tests.{le-leb, lt-leb}
 use native.Mathlib.Omega.{arith}
 use Rattle.bitstream.specs.Outcome.{value, refused, number}
-use Rattle.aps.specs.Codec.{Codec, u, when}
-use Rattle.aps.specs.Elements.{signed, noSigned}
-use Rattle.aps.specs.LmcsSyntax.{codedFrom}
 use Rattle.aps.specs.Reading.{outcomeSigned}
 use Rattle.aps.proofs.Answers.{answered}
-use Rattle.aps.proofs.LmcsSteps.{in-range}
+use Rattle.aps.proofs.LmcsSteps.{in-range, bin}
 use Rattle.aps.proofs.Steps.{when-read, Reading2, reading2-from, reading2-more, reading2-done, reading2-refused}
 use Rattle.aps.proofs.lmcs.read_codewords.Statement.{statement}
 use Rattle.aps.proofs.lmcs.read_codewords.Tie as tie
-
-abbrev bin : ℕ → ℕ → ℕ → ℕ → Codec (ℕ × Bool)
-bin min max prec i = when (codedFrom min max i) noSigned (signed (u (prec + 1)))
 
 abbrev Inv-loop : tie.InvT-loop
 Inv-loop bytes p min max prec abs₀ sign₀ at₀ i₀ end abs sign at i =

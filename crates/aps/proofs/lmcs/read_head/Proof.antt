@@ -4,10 +4,9 @@ use Prim.Native.Nat.{_+_, _≤_}
 use mathlib.Core.Path.{_≡_, sym, _∙_}
 use denote.Ref.{now}
 use native.Mathlib.Omega.{arith}
-use Rattle.bitstream.specs.Outcome.{value, refused, number}
+use Rattle.bitstream.specs.Outcome.{value}
 use Rattle.bitstream.specs.Fields.{readUe}
 use Rattle.bitstream.specs.Reading.{outcomeU}
-use Rattle.aps.specs.Reading.{EndsBy}
 use Rattle.aps.proofs.Answers.{answered}
 use Rattle.aps.proofs.LmcsSteps.{min-refused, max-refused, prec-refused, range-refused, head-read}
 use Rattle.aps.proofs.lmcs.read_head.Statement.{statement}

@@ -8,7 +8,6 @@ use Rattle.bitstream.specs.Outcome.{value}
 use Rattle.aps.specs.Codec.{ue, _▷_}
 use Rattle.aps.specs.LmcsSyntax.{inRange, lmcsHead}
 use Rattle.aps.specs.Reading.{outcomeStop}
-use Rattle.aps.specs.Stops.{StopsBy}
 use Rattle.aps.proofs.Answers.{answered}
 use Rattle.aps.proofs.StopLaws.{stops-more}
 use Rattle.aps.proofs.LmcsSteps.{lmcs-refused, lmcs-read}

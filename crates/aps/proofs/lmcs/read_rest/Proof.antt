@@ -1,11 +1,11 @@
 -- `read_rest`: the codewords, then the chroma delta, whose 3 bits fit a byte.
 use borrow.Author.Needs.{needs}
 use Prim.Native.Nat.{_+_, _≤_, _<_}
-use mathlib.Core.Path.{_≡_, sym, ap, _∙_}
+use mathlib.Core.Path.{_≡_, sym}
 use denote.Ref.{now}
 use native.Mathlib.Omega.{arith}
 use Rattle.bitstream.specs.Outcome.{value}
-use Rattle.aps.specs.LmcsSyntax.{lmcsCodewords, lmcsChroma, toLmcs}
+use Rattle.aps.specs.LmcsSyntax.{lmcsCodewords, toLmcs}
 use Rattle.aps.specs.Reading.{outcomeStop, outcomeSigned}
 use Rattle.aps.proofs.Answers.{answered}
 use Rattle.aps.proofs.LmcsSteps.{crs-lt, rest-refused, crs-refused, rest-read}

@@ -10,8 +10,7 @@ use Rattle.bitstream.specs.Outcome.{value}
 use Rattle.bitstream.specs.Fields.{readUe}
 use Rattle.bitstream.specs.Reading.{outcomeU}
 use Rattle.aps.proofs.Bounds.{ends-at}
-use Rattle.aps.proofs.Steps.{when-read}
-use Rattle.aps.proofs.ScalingSteps.{ueTo-read}
+use Rattle.aps.proofs.Steps.{ueTo-read, when-read}
 use Rattle.aps.proofs.scaling_list_data.read_delta.Statement.{statement}
 use Rattle.aps.proofs.scaling_list_data.read_delta.Tie as tie
 

@@ -10,7 +10,8 @@ use mir.Facts.{toZ-ofZ}
 use Rattle.bitstream.specs.Reading.{outcomeS}
 use Rattle.aps.specs.ScalingSyntax.{stepAt}
 use Rattle.aps.proofs.Bounds.{ends-at}
-use Rattle.aps.proofs.ScalingSteps.{entries-le, Stepping, stepping-start, stepping-more, stepping-refused, stepping-done}
+use Rattle.aps.proofs.ScalingLaws.{entries-le}
+use Rattle.aps.proofs.ScalingSteps.{Stepping, stepping-start, stepping-more, stepping-refused, stepping-done}
 use Rattle.aps.proofs.scaling_list_data.read_steps.Statement.{statement}
 use Rattle.aps.proofs.scaling_list_data.read_steps.Tie as tie
 

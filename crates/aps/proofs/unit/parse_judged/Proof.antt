@@ -1,12 +1,11 @@
 -- `parse_judged`: the escapes left out, then the RBSP at the start of the work buffer.
 use borrow.Author.Needs.{needs}
-use Prim.Native.Nat.{_-_, _≤_}
 use mathlib.Core.Path.{_≡_, sym, ap, _∙_}
 use mathlib.Core.List.{_++_}
 use denote.Ref.{now}
 use lib.ListN.{length, drop}
 use lib.Seq.{length-take-le}
-use Rattle.bitstream.specs.Outcome.{Outcome, value, refused, number, left}
+use Rattle.bitstream.specs.Outcome.{value, left}
 use Rattle.bitstream.specs.Escapes.{outcomeSize}
 use Rattle.bitstream.proofs.CodeLaws.{value-refused}
 use Rattle.aps.specs.Unit.{rbspOf}

@@ -9,7 +9,7 @@ use native.Mathlib.Omega.{arith}
 use denote.Ref.{now}
 use lib.Dec.{leb}
 use Rattle.aps.proofs.StopLaws.{stops-more}
-use Rattle.aps_writer.proofs.AlfWrites.{length-row, alternative-row}
+use Rattle.aps_writer.proofs.AlfFilters.{length-row, alternative-row}
 use Rattle.aps_writer.proofs.alf.put_alternative.Statement.{statement}
 use Rattle.aps_writer.proofs.alf.put_alternative.Tie as tie
 

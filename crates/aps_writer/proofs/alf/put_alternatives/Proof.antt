@@ -3,7 +3,7 @@ use borrow.Author.Needs.{needs}
 use mathlib.Core.Path.{_≡_}
 use mathlib.Core.Bool.{Bool}
 use mathlib.Core.List.{List}
-use Prim.Native.Nat.{ℕ, suc, _+_, _-_, _*_, _≤_}
+use Prim.Native.Nat.{ℕ, _+_, _-_, _*_, _≤_}
 use native.Mathlib.Omega.{arith}
 use denote.Ref.{now}
 use lib.ListN.{length, take, drop}
@@ -11,8 +11,10 @@ use Rattle.aps.specs.Elements.{zipped, rowsOf}
 use Rattle.aps.specs.AlfSyntax.{alternative}
 use Rattle.aps.specs.Stops.{Spans}
 use Rattle.aps.proofs.StopLaws.{stops-more}
-use Rattle.aps_writer.proofs.WriteSteps.{Writing, writing-start, writing-more, spans-then, spans-more}
-use Rattle.aps_writer.proofs.AlfWrites.{spans-here, wrote-each, rows-step, rows-length, alternatives-wrote}
+use Rattle.aps_writer.proofs.WriteSteps.{Writing, writing-start, writing-more, spans-step, spans-more}
+use Rattle.aps_writer.proofs.SentWrites.{spans-here}
+use Rattle.aps_writer.proofs.ArrayWrites.{wrote-each, rows-step, rows-length}
+use Rattle.aps_writer.proofs.AlfFilters.{alternatives-wrote}
 use Rattle.aps_writer.proofs.alf.put_alternatives.Statement.{statement}
 use Rattle.aps_writer.proofs.alf.put_alternatives.Tie as tie
 
@@ -51,13 +53,12 @@ loop-again c =
     let a = b .args in
     let o = l .loop in
     let k = c .before .before .put-alternative in
-    let p = zipped (now (a .abs)) (now (a .sign)) in
-    let e : o .row + 1 ≡ suc (o .row) = omega arith in (
+    let p = zipped (now (a .abs)) (now (a .sign)) in (
       search needs,
       omega arith,
-      spans-more (a .from) (k .result) (108 * o .row + 108) (108 * (o .row + 1)) (omega arith) (spans-then (a .from) (o .at) (k .result) (108 * o .row) 108 (o .inv .2) (k .ensures .within)),
-      rw e (writing-more (alternative (a .clip) (a .count-minus1)) 8 (rows (now (a .abs)) (now (a .sign)) (now (a .clips))) (a .from) (a .out .now) (o .row) (o .at) (k .result) (o .out) _
-          (take 6 (drop (6 * o .row) p), take 6 (drop (6 * o .row) (now (a .clips)))) 108 (omega arith) (rows-step 8 6 (o .row) p (now (a .clips)) (omega arith)) (o .inv .3) (k .ensures)),
+      spans-step (a .from) (o .at) (k .result) 108 (o .row) (o .inv .2) (k .ensures .within),
+      writing-more (alternative (a .clip) (a .count-minus1)) 8 (rows (now (a .abs)) (now (a .sign)) (now (a .clips))) (a .from) (a .out .now) (o .row) (o .at) (k .result) (o .out) _
+          (take 6 (drop (6 * o .row) p), take 6 (drop (6 * o .row) (now (a .clips)))) 108 (omega arith) (rows-step 8 6 (o .row) p (now (a .clips)) (omega arith)) (o .inv .3) (k .ensures),
     )
 
 same-length : tie.Need-same-length Inv-loop μ-loop

@@ -1,7 +1,7 @@
 -- `put_cc_coefficients`: the loop has written the first i coefficients; the rest are 0 or the arrays are not taken.
 use mathlib.Core.Path.{_≡_}
 use mathlib.Core.Bool.{false}
-use Prim.Native.Nat.{suc, _+_, _-_, _*_, _≤_}
+use Prim.Native.Nat.{_+_, _-_, _*_, _≤_}
 use native.Mathlib.Omega.{arith}
 use borrow.Author.Needs.{needs}
 use denote.Ref.{now}
@@ -10,8 +10,10 @@ use Rattle.aps.specs.Codec.{u}
 use Rattle.aps.specs.Elements.{signed, noNumber, noFlag, noSigned, zipped}
 use Rattle.aps.specs.Stops.{Spans}
 use Rattle.aps.proofs.StopLaws.{stops-more}
-use Rattle.aps_writer.proofs.WriteSteps.{Writing, writing-start, spans-then, spans-more}
-use Rattle.aps_writer.proofs.AlfWrites.{spans-here, firstSent, sent-more, zipped-step, pairs-done, cc-wrote}
+use Rattle.aps_writer.proofs.WriteSteps.{Writing, writing-start, spans-step, spans-more}
+use Rattle.aps_writer.proofs.SentWrites.{spans-here}
+use Rattle.aps_writer.proofs.ArrayWrites.{firstSent, sent-more, zipped-step, pairs-done}
+use Rattle.aps_writer.proofs.AlfFilters.{cc-wrote}
 use Rattle.aps_writer.proofs.alf.put_cc_coefficients.Statement.{statement}
 use Rattle.aps_writer.proofs.alf.put_cc_coefficients.Tie as tie
 
@@ -65,13 +67,12 @@ loop-again c =
     let t = now (a .sign) in
     let same : length t ≡ length s = omega arith in
     let o = l .loop in
-    let k = c .before .before .put-signed in
-    let e : o .i + 1 ≡ suc (o .i) = omega arith in (
+    let k = c .before .before .put-signed in (
       search needs,
       omega arith,
-      spans-more (a .from) (k .result) (4 * o .i + 4) (4 * (o .i + 1)) (omega arith) (spans-then (a .from) (o .at) (k .result) (4 * o .i) 4 (o .inv .2) (k .ensures .within)),
-      rw e (sent-more noSigned (signed (u 3)) (7 * (a .count-minus1 + 1)) (length s) (zipped s t) (a .from) (a .out .now) (o .i) (o .at) (k .result) (o .out) _ (getD s (o .i) 0, getD t (o .i) false) 4
-          (omega arith) (omega arith) (zipped-step (o .i) s t 0 false same (omega arith)) (o .inv .3) (k .ensures)),
+      spans-step (a .from) (o .at) (k .result) 4 (o .i) (o .inv .2) (k .ensures .within),
+      sent-more noSigned (signed (u 3)) (7 * (a .count-minus1 + 1)) (length s) (zipped s t) (a .from) (a .out .now) (o .i) (o .at) (k .result) (o .out) _ (getD s (o .i) 0, getD t (o .i) false) 4
+          (omega arith) (omega arith) (zipped-step (o .i) s t 0 false same (omega arith)) (o .inv .3) (k .ensures),
     )
 
 zero-bytes-requires : tie.Need-zero-bytes-requires Inv-loop μ-loop

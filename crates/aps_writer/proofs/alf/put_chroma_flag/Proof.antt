@@ -1,10 +1,7 @@
 -- `put_chroma_flag`: the flag where chroma is present, else it must be 0.
 use borrow.Author.Needs.{needs}
-use mathlib.Core.Bool.{false}
-use native.Mathlib.Omega.{arith}
-use Rattle.aps.specs.Codec.{when}
 use Rattle.aps.specs.Elements.{flag, noFlag}
-use Rattle.aps_writer.proofs.WriteSteps.{wrote-when, wrote-none, wrote-more}
+use Rattle.aps_writer.proofs.SentWrites.{when-sent, when-unsent}
 use Rattle.aps_writer.proofs.alf.put_chroma_flag.Statement.{statement}
 use Rattle.aps_writer.proofs.alf.put_chroma_flag.Tie as tie
 
@@ -17,7 +14,7 @@ same-length c = search needs
 returns : tie.Need-returns
 returns c =
     let a = c .before .before .before .before .before .before .args in
-    rw (c .before .before .before .before .if1 .taken) (wrote-when flag (a .b) 1 noFlag (c .before .before .put-flag .ensures))
+    when-sent noFlag flag (a .b) 1 (c .before .before .before .before .if1 .taken) (c .before .before .put-flag .ensures)
 
 put-none-requires : tie.Need-put-none-requires
 put-none-requires c κs = search needs
@@ -25,7 +22,7 @@ put-none-requires c κs = search needs
 returns-2 : tie.Need-returns-2
 returns-2 c =
     let a = c .before .before .before .args in
-    rw (c .before .if1 .left) (wrote-more (when false noFlag flag) (a .b) 0 1 (omega arith) (wrote-none noFlag flag (a .b) (a .from) _ _ (c .put-none .ensures)))
+    when-unsent noFlag flag (a .b) 1 (c .before .if1 .left) (c .put-none .ensures)
 
 pub put-chroma-flag-spec : {M : Type 1} → statement M
 put-chroma-flag-spec = tie.close (tie.spec put-flag-requires same-length returns put-none-requires returns-2)

@@ -1,6 +1,6 @@
 -- `put_clips`: the loop has written the first i clips; the rest are 0 or the array is not taken.
 use mathlib.Core.Path.{_≡_, refl, ap, _∙_}
-use Prim.Native.Nat.{suc, _+_, _-_, _*_, _≤_}
+use Prim.Native.Nat.{_+_, _-_, _*_, _≤_}
 use native.Mathlib.Omega.{arith}
 use borrow.Author.Needs.{needs}
 use denote.Ref.{now}
@@ -11,8 +11,9 @@ use Rattle.aps.specs.Elements.{noNumber}
 use Rattle.aps.specs.Stops.{Spans}
 use Rattle.aps_writer.specs.Writing.{unsent}
 use Rattle.aps.proofs.StopLaws.{stops-more}
-use Rattle.aps_writer.proofs.WriteSteps.{Writing, writing-start, spans-then, spans-more}
-use Rattle.aps_writer.proofs.AlfWrites.{spans-here, firstSent, sent-more, sent-done}
+use Rattle.aps_writer.proofs.WriteSteps.{Writing, writing-start, spans-step, spans-more}
+use Rattle.aps_writer.proofs.SentWrites.{spans-here}
+use Rattle.aps_writer.proofs.ArrayWrites.{firstSent, sent-more, sent-done}
 use Rattle.aps_writer.proofs.alf.put_clips.Statement.{statement}
 use Rattle.aps_writer.proofs.alf.put_clips.Tie as tie
 
@@ -54,13 +55,12 @@ loop-again c =
     let a = b .args in
     let s = now (a .clip) in
     let o = l .loop in
-    let k = c .before .before .put-u in
-    let e : o .i + 1 ≡ suc (o .i) = omega arith in (
+    let k = c .before .before .put-u in (
       search needs,
       omega arith,
-      spans-more (a .from) (k .result) (2 * o .i + 2) (2 * (o .i + 1)) (omega arith) (spans-then (a .from) (o .at) (k .result) (2 * o .i) 2 (o .inv .2) (k .ensures .within)),
-      rw e (sent-more noNumber (u 2) (a .n) (length s) s (a .from) (a .out .now) (o .i) (o .at) (k .result) (o .out) _ (getD s (o .i) 0) 2
-          (omega arith) (omega arith) (drop-cons s (o .i) 0 (omega arith)) (o .inv .3) (k .ensures)),
+      spans-step (a .from) (o .at) (k .result) 2 (o .i) (o .inv .2) (k .ensures .within),
+      sent-more noNumber (u 2) (a .n) (length s) s (a .from) (a .out .now) (o .i) (o .at) (k .result) (o .out) _ (getD s (o .i) 0) 2
+          (omega arith) (omega arith) (drop-cons s (o .i) 0 (omega arith)) (o .inv .3) (k .ensures),
     )
 
 zero-bytes-requires : tie.Need-zero-bytes-requires Inv-loop μ-loop

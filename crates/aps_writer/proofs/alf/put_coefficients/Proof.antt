@@ -1,7 +1,7 @@
 -- `put_coefficients`: the loop has written the first i coefficients; the rest are 0 or the arrays are not taken.
 use mathlib.Core.Path.{_≡_}
 use mathlib.Core.Bool.{false}
-use Prim.Native.Nat.{suc, _+_, _-_, _*_, _≤_}
+use Prim.Native.Nat.{_+_, _-_, _*_, _≤_}
 use native.Mathlib.Omega.{arith}
 use borrow.Author.Needs.{needs}
 use denote.Ref.{now}
@@ -10,8 +10,9 @@ use Rattle.aps.specs.Elements.{noNumber, noFlag, noSigned, zipped}
 use Rattle.aps.specs.AlfSyntax.{coefficient}
 use Rattle.aps.specs.Stops.{Spans}
 use Rattle.aps.proofs.StopLaws.{stops-more}
-use Rattle.aps_writer.proofs.WriteSteps.{Writing, writing-start, spans-then, spans-more}
-use Rattle.aps_writer.proofs.AlfWrites.{spans-here, firstSent, sent-more, zipped-step, pairs-done}
+use Rattle.aps_writer.proofs.WriteSteps.{Writing, writing-start, spans-step, spans-more}
+use Rattle.aps_writer.proofs.SentWrites.{spans-here}
+use Rattle.aps_writer.proofs.ArrayWrites.{firstSent, sent-more, zipped-step, pairs-done}
 use Rattle.aps_writer.proofs.alf.put_coefficients.Statement.{statement}
 use Rattle.aps_writer.proofs.alf.put_coefficients.Tie as tie
 
@@ -58,13 +59,12 @@ loop-again c =
     let s = now (a .abs) in
     let t = now (a .sign) in
     let o = l .loop in
-    let k = c .before .before .put-coefficient in
-    let e : o .i + 1 ≡ suc (o .i) = omega arith in (
+    let k = c .before .before .put-coefficient in (
       search needs,
       omega arith,
-      spans-more (a .from) (k .result) (16 * o .i + 16) (16 * (o .i + 1)) (omega arith) (spans-then (a .from) (o .at) (k .result) (16 * o .i) 16 (o .inv .2) (k .ensures .within)),
-      rw e (sent-more noSigned coefficient (a .n) (length s) (zipped s t) (a .from) (a .out .now) (o .i) (o .at) (k .result) (o .out) _ (getD s (o .i) 0, getD t (o .i) false) 16
-          (omega arith) (omega arith) (zipped-step (o .i) s t 0 false (b .pre .4) (omega arith)) (o .inv .3) (k .ensures)),
+      spans-step (a .from) (o .at) (k .result) 16 (o .i) (o .inv .2) (k .ensures .within),
+      sent-more noSigned coefficient (a .n) (length s) (zipped s t) (a .from) (a .out .now) (o .i) (o .at) (k .result) (o .out) _ (getD s (o .i) 0, getD t (o .i) false) 16
+          (omega arith) (omega arith) (zipped-step (o .i) s t 0 false (b .pre .4) (omega arith)) (o .inv .3) (k .ensures),
     )
 
 zero-numbers-requires : tie.Need-zero-numbers-requires Inv-loop μ-loop

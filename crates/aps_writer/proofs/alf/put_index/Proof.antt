@@ -5,7 +5,7 @@ use native.Mathlib.Omega.{arith}
 use lib.Dec.{leb}
 use Rattle.aps.specs.Codec.{u}
 use Rattle.aps_writer.proofs.WriteSteps.{wrote-judged}
-use Rattle.aps_writer.proofs.AlfWrites.{index-bad}
+use Rattle.aps_writer.proofs.AlfFilters.{index-bad}
 use Rattle.aps_writer.proofs.alf.put_index.Statement.{statement}
 use Rattle.aps_writer.proofs.alf.put_index.Tie as tie
 

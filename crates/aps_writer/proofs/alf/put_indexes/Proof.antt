@@ -1,6 +1,6 @@
 -- `put_indexes`: nothing is sent of one filter; else the loop has written the first i indexes.
 use mathlib.Core.Path.{_≡_, ap, _∙_}
-use Prim.Native.Nat.{suc, _+_, _-_, _*_, _≤_}
+use Prim.Native.Nat.{_+_, _-_, _*_, _≤_}
 use native.Mathlib.Omega.{arith}
 use borrow.Author.Needs.{needs}
 use denote.Ref.{now}
@@ -9,14 +9,17 @@ use lib.Seq.{drop-cons}
 use Rattle.aps.specs.Stops.{Spans}
 use Rattle.aps_writer.specs.Writing.{unsent}
 use Rattle.aps.proofs.StopLaws.{stops-more}
-use Rattle.aps_writer.proofs.WriteSteps.{Writing, writing-start, writing-more, spans-then, spans-more}
-use Rattle.aps_writer.proofs.AlfWrites.{spans-here, indexSent, index-sent, indexes-none, wrote-each}
+use Rattle.aps.proofs.AlfSteps.{index}
+use Rattle.aps_writer.proofs.WriteSteps.{Writing, writing-start, writing-more, spans-step, spans-more}
+use Rattle.aps_writer.proofs.SentWrites.{spans-here}
+use Rattle.aps_writer.proofs.ArrayWrites.{wrote-each}
+use Rattle.aps_writer.proofs.AlfFilters.{index-sent, indexes-none}
 use Rattle.aps_writer.proofs.alf.put_indexes.Statement.{statement}
 use Rattle.aps_writer.proofs.alf.put_indexes.Tie as tie
 
 abbrev Inv-loop : tie.InvT-loop
 Inv-loop out₀ count-minus1 idx bits at₀ i₀ out at i =
-    (length out ≡ 4096) × (i ≤ 25) × Spans at₀ at (32 * i) × Writing (indexSent count-minus1) 25 idx at₀ out₀ i at out
+    (length out ≡ 4096) × (i ≤ 25) × Spans at₀ at (32 * i) × Writing (λ i. index count-minus1) 25 idx at₀ out₀ i at out
 
 abbrev μ-loop : tie.MeasureT-loop
 μ-loop out₀ count-minus1 idx bits at₀ i₀ out at i = 25 - i
@@ -43,7 +46,7 @@ loop-holds : tie.Need-loop-holds Inv-loop μ-loop
 loop-holds c =
     let b = c .before .before .before .before in
     let a = b .args in
-    (b .pre .0, omega arith, spans-here (a .from) (32 * 0), writing-start (indexSent (a .count-minus1)) 25 (now (a .idx)) (a .from) (a .out .now))
+    (b .pre .0, omega arith, spans-here (a .from) (32 * 0), writing-start (λ i. index (a .count-minus1)) 25 (now (a .idx)) (a .from) (a .out .now))
 
 shared-slice-read-put-index : tie.Need-shared-slice-read-put-index Inv-loop μ-loop
 shared-slice-read-put-index c = omega arith
@@ -70,12 +73,11 @@ loop-again c =
     let n = a .count-minus1 in
     let o = l .loop in
     let k = c .before .before .put-index in
-    let e : o .i + 1 ≡ suc (o .i) = omega arith in
-    let w = index-sent n (g .result) (getD s (o .i) 0) (o .i) (g .ensures .0) (g .ensures .1) (l .before .before .if1 .left) (k .ensures) in (
+    let w = index-sent n (g .result) (getD s (o .i) 0) (g .ensures .0) (g .ensures .1) (l .before .before .if1 .left) (k .ensures) in (
       search needs,
       omega arith,
-      spans-more (a .from) (k .result) (32 * o .i + 32) (32 * (o .i + 1)) (omega arith) (spans-then (a .from) (o .at) (k .result) (32 * o .i) 32 (o .inv .2) (w .within)),
-      rw e (writing-more (indexSent n) 25 s (a .from) (a .out .now) (o .i) (o .at) (k .result) (o .out) _ (getD s (o .i) 0) 32 (omega arith) (drop-cons s (o .i) 0 (omega arith)) (o .inv .3) w),
+      spans-step (a .from) (o .at) (k .result) 32 (o .i) (o .inv .2) (w .within),
+      writing-more (λ i. index n) 25 s (a .from) (a .out .now) (o .i) (o .at) (k .result) (o .out) _ (getD s (o .i) 0) 32 (omega arith) (drop-cons s (o .i) 0 (omega arith)) (o .inv .3) w,
     )
 
 same-length : tie.Need-same-length Inv-loop μ-loop
@@ -87,7 +89,7 @@ returns-2 c =
     let b = l .before .before .before .before .before in
     let a = b .args in
     let o = l .loop in
-    wrote-each (indexSent (a .count-minus1)) 25 (now (a .idx)) (a .from) (a .out .now) (o .i) (o .at) (o .out) 800 (omega arith) (b .pre .3) (o .inv .3)
+    wrote-each (λ i. index (a .count-minus1)) 25 (now (a .idx)) (a .from) (a .out .now) (o .i) (o .at) (o .out) 800 (omega arith) (b .pre .3) (o .inv .3)
     (spans-more (a .from) (o .at) (32 * o .i) 800 (omega arith) (o .inv .2))
 
 pub put-indexes-spec : {M : Type 1} → statement M

@@ -4,7 +4,7 @@ use Prim.Native.Nat.{_+_, _*_}
 use native.Mathlib.Omega.{arith}
 use denote.Ref.{now}
 use Rattle.aps.proofs.StopLaws.{stops-more}
-use Rattle.aps_writer.proofs.AlfWrites.{luma-filters-wrote}
+use Rattle.aps_writer.proofs.AlfFilters.{luma-filters-wrote}
 use Rattle.aps_writer.proofs.alf.put_luma_filters.Statement.{statement}
 use Rattle.aps_writer.proofs.alf.put_luma_filters.Tie as tie
 

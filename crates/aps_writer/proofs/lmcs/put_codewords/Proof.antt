@@ -1,6 +1,6 @@
 -- `put_codewords`: bins below i are written; those that are not coded take no bits.
 use borrow.Author.Needs.{needs}
-use Prim.Native.Nat.{suc, _+_, _-_, _*_, _≤_}
+use Prim.Native.Nat.{_+_, _-_, _*_, _≤_}
 use mathlib.Core.Path.{_≡_, refl, sym, _∙_}
 use mathlib.Core.Bool.{false}
 use native.Mathlib.Omega.{arith}
@@ -8,11 +8,13 @@ use denote.Ref.{now}
 use lib.ListN.{length, getD}
 use Rattle.aps.specs.Elements.{zipped}
 use Rattle.aps.specs.Stops.{Spans}
-use Rattle.aps.proofs.LmcsSteps.{in-range}
+use Rattle.aps.proofs.LmcsSteps.{in-range, bin}
 use Rattle.aps.proofs.StopLaws.{stops-more}
-use Rattle.aps_writer.proofs.WriteSteps.{spans-then, spans-more, Writing, writing-start, writing-more, writing-done}
-use Rattle.aps_writer.proofs.AlfWrites.{zipped-step}
-use Rattle.aps_writer.proofs.LmcsWrites.{bin, zipped-end, codewords-wrote}
+use Rattle.aps.proofs.PairLaws.{zipped-length}
+use Rattle.aps_writer.proofs.WriteSteps.{spans-step, spans-more, Writing, writing-start, writing-more}
+use Rattle.aps_writer.proofs.SentWrites.{spans-here}
+use Rattle.aps_writer.proofs.ArrayWrites.{zipped-step, wrote-each}
+use Rattle.aps_writer.proofs.LmcsWrites.{codewords-wrote}
 use Rattle.aps_writer.proofs.lmcs.put_codewords.Statement.{statement}
 use Rattle.aps_writer.proofs.lmcs.put_codewords.Tie as tie
 
@@ -29,7 +31,7 @@ loop-holds c =
     let a = b .args in (
       omega arith,
       refl,
-      λ m s. stops-more (a .from) m (m + 0) s (omega arith),
+      spans-here (a .from) (16 * 0),
       writing-start (bin (a .min) (a .max) (a .prec)) 16 (zipped (now (a .abs)) (now (a .sign))) (a .from) (now (a .out)),
     )
 
@@ -70,16 +72,14 @@ loop-again c =
     let a = b .args in
     let o = l .loop in
     let w = rw (f .bin-coded .ensures) at (k .put-signed-if .ensures) in
-    let s : length (k .put-signed-if .last .0) ≡ length (o .out) = search needs in
-    let e : o .i + 1 ≡ suc (o .i) = omega arith in (
+    let s : length (k .put-signed-if .last .0) ≡ length (o .out) = search needs in (
       omega arith,
       s ∙ o .inv .1,
-      spans-more (a .from) (k .put-signed-if .result) (16 * o .i + (a .prec + 1 + 1)) (16 * (o .i + 1)) (omega (arith, in-range _ _ _ (b .pre .2) .2))
-          (spans-then (a .from) (o .at) (k .put-signed-if .result) (16 * o .i) (a .prec + 1 + 1) (o .inv .2) (w .within)),
-      rw e
-          (writing-more (bin (a .min) (a .max) (a .prec)) 16 (zipped (now (a .abs)) (now (a .sign))) (a .from) (now (a .out)) (o .i) (o .at) (k .put-signed-if .result) (o .out) (k .put-signed-if .last .0)
+      spans-step (a .from) (o .at) (k .put-signed-if .result) 16 (o .i) (o .inv .2)
+          (spans-more (o .at) (k .put-signed-if .result) (a .prec + 1 + 1) 16 (omega (arith, in-range _ _ _ (b .pre .2) .2)) (w .within)),
+      writing-more (bin (a .min) (a .max) (a .prec)) 16 (zipped (now (a .abs)) (now (a .sign))) (a .from) (now (a .out)) (o .i) (o .at) (k .put-signed-if .result) (o .out) (k .put-signed-if .last .0)
           (getD (now (a .abs)) (o .i) 0, getD (now (a .sign)) (o .i) false) (a .prec + 1 + 1) (omega arith)
-          (zipped-step (o .i) (now (a .abs)) (now (a .sign)) 0 false (b .pre .4 ∙ sym (b .pre .3)) (omega (arith, b .pre .3))) (o .inv .3) w),
+          (zipped-step (o .i) (now (a .abs)) (now (a .sign)) 0 false (b .pre .4 ∙ sym (b .pre .3)) (omega (arith, b .pre .3))) (o .inv .3) w,
     )
 
 same-length : tie.Need-same-length Inv-loop μ-loop
@@ -92,9 +92,10 @@ returns c =
     let a = b .args in
     let o = l .loop in
     let e : o .i ≡ 16 = omega arith in
-    codewords-wrote (a .min) (a .max) (a .prec) (now (a .abs)) (now (a .sign)) (b .pre .3 ∙ sym (b .pre .4))
-    (writing-done (bin (a .min) (a .max) (a .prec)) 16 (zipped (now (a .abs)) (now (a .sign))) (a .from) (now (a .out)) (o .at) (o .out)
-    (zipped-end (now (a .abs)) (now (a .sign)) 16 (b .pre .3)) (rw e at (o .inv .3))) (rw e at (o .inv .2))
+    let s : length (now (a .sign)) ≡ length (now (a .abs)) = b .pre .4 ∙ sym (b .pre .3) in
+    codewords-wrote (a .min) (a .max) (a .prec) (now (a .abs)) (now (a .sign)) s
+    (wrote-each (bin (a .min) (a .max) (a .prec)) 16 (zipped (now (a .abs)) (now (a .sign))) (a .from) (now (a .out)) (o .i) (o .at) (o .out) 256 e
+    (zipped-length (now (a .abs)) (now (a .sign)) s ∙ b .pre .3) (o .inv .3) (rw e at (o .inv .2)))
 
 pub put-codewords-spec : {M : Type 1} → statement M
 put-codewords-spec =

@@ -4,7 +4,7 @@ use denote.Ref.{now}
 use Prim.Native.Nat.{_+_}
 use Rattle.aps.specs.Codec.{u}
 use Rattle.aps.specs.Elements.{signed, noSigned}
-use Rattle.aps_writer.proofs.WriteSteps.{wrote-when}
+use Rattle.aps_writer.proofs.SentWrites.{when-sent}
 use Rattle.aps_writer.proofs.LmcsWrites.{signed-none}
 use Rattle.aps_writer.proofs.lmcs.put_signed_if.Statement.{statement}
 use Rattle.aps_writer.proofs.lmcs.put_signed_if.Tie as tie
@@ -19,7 +19,7 @@ returns : tie.Need-returns
 returns c =
     let k = c .before .before in
     let b = k .before .before .before .before in
-    rw (k .before .before .if1 .taken) (wrote-when (signed (u (b .args .n))) (b .args .abs, b .args .sign) (b .args .n + 1) noSigned (k .put-signed .ensures))
+    when-sent noSigned (signed (u (b .args .n))) (b .args .abs, b .args .sign) (b .args .n + 1) (k .before .before .if1 .taken) (k .put-signed .ensures)
 
 put-none-requires : tie.Need-put-none-requires
 put-none-requires c κs = search needs

@@ -1,6 +1,5 @@
 -- `put_none`: each case of the definition by itself.
 use borrow.Author.Needs.{needs}
-use mathlib.Core.Path.{_≡_, sym}
 use Rattle.aps_writer.proofs.put.put_none.Statement.{statement}
 use Rattle.aps_writer.proofs.put.put_none.Tie as tie
 

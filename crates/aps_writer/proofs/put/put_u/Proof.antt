@@ -1,8 +1,8 @@
 -- `put_u`: a value below 2 ^ n is the field of n bits.
 use borrow.Author.Needs.{needs}
 use borrow.Author.Tests.{lt-ltb, le-ltb}
-use mathlib.Core.Path.{_≡_, sym, ap, _∙_}
-use mathlib.Core.Bool.{Bool, true, false}
+use mathlib.Core.Path.{_≡_, _∙_}
+use mathlib.Core.Bool.{true, false}
 use mathlib.Core.List.{List}
 use Prim.Native.Nat.{ℕ, _+_, _*_, _%_, _^_, _≤_, _<_}
 use native.Mathlib.Omega.{arith}
@@ -10,7 +10,7 @@ use denote.Ref.{now}
 use lib.ListN.{length}
 use lib.Pow.{pow-mono}
 use Rattle.bitstream.specs.Outcome.{value}
-use Rattle.bitstream.specs.Bits.{fieldBits, putBits}
+use Rattle.bitstream.specs.Bits.{putBits}
 use Rattle.bitstream.specs.Writing.{writeBitsAt}
 use Rattle.bitstream.proofs.WriteLaws.{length-field, write-fits}
 use Rattle.aps.specs.Codec.{u}

@@ -7,7 +7,8 @@ use mir.Facts.{toZ-ofZ, sfits-lit}
 use Rattle.aps.specs.ScalingSyntax.{just}
 use Rattle.aps_writer.specs.Writing.{unsent}
 use Rattle.aps.proofs.ScalingSteps.{se8}
-use Rattle.aps_writer.proofs.ScalingWrites.{same-i32, when-sent, when-unsent}
+use Rattle.aps_writer.proofs.SentWrites.{when-sent, when-unsent}
+use Rattle.aps_writer.proofs.IntegerLaws.{same-i32}
 use Rattle.aps_writer.proofs.scaling_list.put_dc.Statement.{statement}
 use Rattle.aps_writer.proofs.scaling_list.put_dc.Tie as tie
 

@@ -7,7 +7,8 @@ use Rattle.bitstream.specs.Fields.{ueZeros}
 use Rattle.aps.specs.Elements.{ueTo, noNumber}
 use Rattle.aps.specs.ScalingSyntax.{maxIdDelta}
 use Rattle.aps_writer.proofs.WriteSteps.{wrote-more}
-use Rattle.aps_writer.proofs.ScalingWrites.{when-sent, when-unsent, maxIdDelta-word, delta-bits}
+use Rattle.aps_writer.proofs.SentWrites.{when-sent, when-unsent}
+use Rattle.aps_writer.proofs.ScalingWrites.{maxIdDelta-word, delta-bits}
 use Rattle.aps_writer.proofs.scaling_list.put_delta.Statement.{statement}
 use Rattle.aps_writer.proofs.scaling_list.put_delta.Tie as tie
 

@@ -10,7 +10,8 @@ use mir.Syntax.{w32}
 use mir.Facts.{toZ-ofZ}
 use Rattle.aps.specs.Stops.{StopsBy}
 use Rattle.aps.proofs.StopLaws.{stops-more}
-use Rattle.aps_writer.proofs.ScalingWrites.{unsent-stops, entry-copied, entry-listed}
+use Rattle.aps_writer.proofs.SentWrites.{unsent-stops}
+use Rattle.aps_writer.proofs.ScalingWrites.{entry-copied, entry-listed}
 use Rattle.aps_writer.proofs.scaling_list.put_entry.Statement.{statement}
 use Rattle.aps_writer.proofs.scaling_list.put_entry.Tie as tie
 

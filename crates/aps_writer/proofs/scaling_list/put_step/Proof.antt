@@ -11,7 +11,8 @@ use Rattle.aps_writer.specs.Writing.{unsent}
 use Rattle.aps_writer.proofs.PutLaws.{se8-low, se8-high}
 use Rattle.aps.proofs.StopLaws.{stops-more}
 use Rattle.aps.proofs.ScalingSteps.{position}
-use Rattle.aps_writer.proofs.ScalingWrites.{same-i32, difference-fits, difference-is, small-fits, step-repeated, step-sent, step-bad}
+use Rattle.aps_writer.proofs.IntegerLaws.{same-i32, difference-fits, difference-is, small-fits}
+use Rattle.aps_writer.proofs.ScalingWrites.{step-repeated, step-sent, step-bad}
 use Rattle.aps_writer.proofs.scaling_list.put_step.Statement.{statement}
 use Rattle.aps_writer.proofs.scaling_list.put_step.Tie as tie
 

@@ -11,7 +11,7 @@ use mir.Val.{toZ, ofZ}
 use mir.Facts.{toZ-ofZ}
 use Rattle.aps.specs.ScalingSyntax.{entries}
 use Rattle.aps.proofs.StopLaws.{stops-more}
-use Rattle.aps.proofs.ScalingSteps.{entries-le}
+use Rattle.aps.proofs.ScalingLaws.{entries-le}
 use Rattle.aps_writer.proofs.ScalingWrites.{Stepped, stepped-start, stepped-more, stepped-done, row, length-row, row-cons}
 use Rattle.aps_writer.proofs.scaling_list.put_steps.Statement.{statement}
 use Rattle.aps_writer.proofs.scaling_list.put_steps.Tie as tie

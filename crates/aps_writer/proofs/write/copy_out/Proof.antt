@@ -4,7 +4,7 @@ use native.Mathlib.Omega.{arith}
 use denote.Ref.{now}
 use lib.ListN.{length, drop}
 use Rattle.bitstream.proofs.Filling.{Filling, start}
-use Rattle.aps_writer.proofs.RbspWrites.{not-copied, copied-more, copied}
+use Rattle.aps_writer.proofs.UnitWrites.{not-copied, copied-more, copied}
 use Rattle.aps_writer.proofs.write.copy_out.Statement.{statement}
 use Rattle.aps_writer.proofs.write.copy_out.Tie as tie
 

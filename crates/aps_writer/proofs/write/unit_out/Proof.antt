@@ -8,7 +8,7 @@ use denote.Ref.{now}
 use lib.ListN.{length}
 use Rattle.bitstream.specs.Outcome.{value, refused, number}
 use Rattle.bitstream.specs.Escapes.{rbspToEbsp}
-use Rattle.aps_writer.proofs.RbspWrites.{unit-short, unit-within, unit-put, unit-refused}
+use Rattle.aps_writer.proofs.UnitWrites.{unit-short, unit-within, unit-put, unit-refused}
 use lib.Seq.{lt-length-set}
 use Rattle.aps_writer.proofs.write.unit_out.Statement.{statement}
 use Rattle.aps_writer.proofs.write.unit_out.Tie as tie

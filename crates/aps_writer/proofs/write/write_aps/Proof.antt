@@ -5,7 +5,7 @@ use mathlib.Core.Path.{_≡_, sym}
 use lib.ListN.{take}
 use Rattle.bitstream.specs.Outcome.{value}
 use Rattle.aps_writer.specs.Writing.{bytesDue}
-use Rattle.aps_writer.proofs.RbspWrites.{answered-as, aps-refused, due-length, aps-bytes, taken-within}
+use Rattle.aps_writer.proofs.UnitWrites.{answered-as, aps-refused, due-length, aps-bytes, taken-within}
 use Rattle.aps_writer.proofs.write.write_aps.Statement.{statement}
 use Rattle.aps_writer.proofs.write.write_aps.Tie as tie
 

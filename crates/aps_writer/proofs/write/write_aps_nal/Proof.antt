@@ -7,7 +7,7 @@ use mathlib.Core.Path.{_≡_, sym, _∙_}
 use lib.ListN.{length, take}
 use Rattle.bitstream.specs.Outcome.{value}
 use Rattle.aps_writer.specs.Writing.{bytesDue}
-use Rattle.aps_writer.proofs.RbspWrites.{answered-as, aps-type, nal-type, nal-refused, due-length, nal-bytes, taken-within}
+use Rattle.aps_writer.proofs.UnitWrites.{answered-as, aps-type, nal-type, nal-refused, due-length, nal-bytes, taken-within}
 use Rattle.aps_writer.proofs.write.write_aps_nal.Statement.{statement}
 use Rattle.aps_writer.proofs.write.write_aps_nal.Tie as tie
 

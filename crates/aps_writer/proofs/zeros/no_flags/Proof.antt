@@ -1,14 +1,13 @@
 -- `no_flags`: the loop has looked at the entries before i.
-use borrow.Author.Needs.{needs}
 use mathlib.Core.Logic.{⊎-elim}
 use mathlib.Core.Path.{_≡_, refl, ap}
 use mathlib.Core.Bool.{false, not, _&&_}
-use Prim.Native.Nat.{ℕ, suc, _+_, _-_, _≤_, _<_}
+use Prim.Native.Nat.{_-_, _≤_, _<_}
 use native.Mathlib.Omega.{arith}
 use denote.Ref.{now}
 use lib.ListN.{length, drop}
 use Rattle.aps.specs.Elements.{every}
-use Rattle.aps_writer.proofs.PutLaws.{every-less, every-more, every-done}
+use Rattle.aps_writer.proofs.ArrayWrites.{every-less, every-more, every-done}
 use Rattle.aps_writer.proofs.zeros.no_flags.Statement.{statement}
 use Rattle.aps_writer.proofs.zeros.no_flags.Tie as tie
 
@@ -35,12 +34,10 @@ loop-again c =
     let l = c .before .before .before in
     let s = now (l .before .args .flags) in
     let i = l .loop .i in
-    let h : i < length s = omega arith in
-    let e : i + 1 ≡ suc i = omega arith in (
+    let h : i < length s = omega arith in (
       omega arith,
-      rw e
-          (⊎-elim (λ w. rw (w .1) (every-less not false s i (l .loop .all) _ h (ap not (w .0 .taken)) (l .loop .inv .1)))
-          (λ w. rw (w .1) (every-more not false s i (l .loop .all) _ h (ap not (w .0 .left)) (l .loop .inv .1))) (c .if1 .came)),
+      ⊎-elim (λ w. rw (w .1) (every-less not false s i (l .loop .all) _ h (ap not (w .0 .taken)) (l .loop .inv .1)))
+          (λ w. rw (w .1) (every-more not false s i (l .loop .all) _ h (ap not (w .0 .left)) (l .loop .inv .1))) (c .if1 .came),
     )
 
 returns : tie.Need-returns Inv-loop μ-loop

@@ -1,16 +1,15 @@
 -- `zero_numbers`: the loop has looked at the entries before i.
-use borrow.Author.Needs.{needs}
 use borrow.Author.Tests.{eq-eqb, ne-eqb}
 use mathlib.Core.Logic.{⊎-elim}
 use mathlib.Core.Path.{_≡_, refl}
 use mathlib.Core.Bool.{_&&_}
-use Prim.Native.Nat.{ℕ, suc, _+_, _-_, _≤_, _<_}
+use Prim.Native.Nat.{_-_, _≤_, _<_}
 use native.Mathlib.Omega.{arith}
 use denote.Ref.{now}
 use lib.Dec.{eqb}
 use lib.ListN.{length, getD, drop}
 use Rattle.aps.specs.Elements.{every}
-use Rattle.aps_writer.proofs.PutLaws.{every-less, every-more, every-done}
+use Rattle.aps_writer.proofs.ArrayWrites.{every-less, every-more, every-done}
 use Rattle.aps_writer.proofs.zeros.zero_numbers.Statement.{statement}
 use Rattle.aps_writer.proofs.zeros.zero_numbers.Tie as tie
 
@@ -40,12 +39,10 @@ loop-again c =
     let l = c .before .before .before in
     let s = now (l .before .args .numbers) in
     let i = l .loop .i in
-    let h : i < length s = omega arith in
-    let e : i + 1 ≡ suc i = omega arith in (
+    let h : i < length s = omega arith in (
       omega arith,
-      rw e
-          (⊎-elim (λ w. rw (w .1) (every-less (λ v. eqb v 0) 0 s i (l .loop .all) _ h (ne-eqb (getD s i 0) 0 (w .0 .taken)) (l .loop .inv .1)))
-          (λ w. rw (w .1) (every-more (λ v. eqb v 0) 0 s i (l .loop .all) _ h (eq-eqb (getD s i 0) 0 (w .0 .left)) (l .loop .inv .1))) (c .if1 .came)),
+      ⊎-elim (λ w. rw (w .1) (every-less (λ v. eqb v 0) 0 s i (l .loop .all) _ h (ne-eqb (getD s i 0) 0 (w .0 .taken)) (l .loop .inv .1)))
+          (λ w. rw (w .1) (every-more (λ v. eqb v 0) 0 s i (l .loop .all) _ h (eq-eqb (getD s i 0) 0 (w .0 .left)) (l .loop .inv .1))) (c .if1 .came),
     )
 
 returns : tie.Need-returns Inv-loop μ-loop
