@@ -1,15 +1,14 @@
 // alf_data(), H.266 7.3.2.18, written: what is not sent must be 0.
+use crate::alf_chroma::put_cc;
+use crate::alf_chroma::put_chroma;
 use crate::put::put_coefficient;
 use crate::put::put_flag;
 use crate::put::put_none;
-use crate::put::put_signed;
 use crate::put::put_u;
 use crate::put::put_ue_to;
 use crate::zeros::no_flags;
 use crate::zeros::zero_bytes;
 use crate::zeros::zero_numbers;
-use aps::alf::VvcAlfCcFilters;
-use aps::alf::VvcAlfChroma;
 use aps::alf::VvcAlfData;
 use aps::alf::VvcAlfLuma;
 use aps::alf_fields::ceil_log2;
@@ -18,17 +17,23 @@ use aps::fields::Stop;
 ghost use mathlib.Core.Path.{_≡_};
 ghost use Prim.Native.Nat.{_+_, _*_, _≤_, _<_};
 ghost use lib.Dec.{ltb, leb};
-ghost use lib.ListN.{length, take, drop};
+ghost use lib.ListN.{length};
 ghost use Rattle.aps.specs.Codec.{u, judged, when, each};
-ghost use Rattle.aps.specs.Elements.{flag, noFlag, noNumber, noSigned, apart, zipped};
+ghost use Rattle.aps.specs.Elements.{flag, noFlag, noNumber, noSigned, apart};
 ghost use Rattle.aps.specs.AlfSyntax.{coefficient, luma, lumaIndexes, lumaFilters, noLuma};
-ghost use Rattle.aps.specs.AlfSyntax.{chroma, alternative, alternatives, noChroma, cc, ccCoefficients, noCc};
+ghost use Rattle.aps.specs.AlfSyntax.{chroma};
 ghost use Rattle.aps.specs.AlfSyntax.{alf, alfFilters};
 ghost use Rattle.aps.specs.Stops.{StopsBy};
 ghost use Rattle.aps_writer.specs.Writing.{Wrote};
 
 // The first n coefficients of two arrays; the rest are 0.
-fn put_coefficients(out: &mut [u8], from: Stop, n: usize, abs: &[u32], sign: &[bool]) -> Stop
+pub(crate) fn put_coefficients(
+    out: &mut [u8],
+    from: Stop,
+    n: usize,
+    abs: &[u32],
+    sign: &[bool],
+) -> Stop
     requires { ⌜ (length (now out) ≡ 4096) × StopsBy from 20000 × (n ≤ length (now abs)) × (n ≤ 300) × (length (now sign) ≡ length (now abs)) ⌝ }
     ensures { λ r. ⌜ Wrote (apart (each (length (now (abs .entry))) (λ i. when (ltb i n) noSigned coefficient))) (now (abs .entry), now (sign .entry)) (16 * n) from r
         (now (out .entry)) (now (out .exit)) ⌝ }
@@ -44,7 +49,7 @@ fn put_coefficients(out: &mut [u8], from: Stop, n: usize, abs: &[u32], sign: &[b
 }
 
 // The first n clips of an array; the rest are 0.
-fn put_clips(out: &mut [u8], from: Stop, n: usize, clip: &[u8]) -> Stop
+pub(crate) fn put_clips(out: &mut [u8], from: Stop, n: usize, clip: &[u8]) -> Stop
     requires { ⌜ (length (now out) ≡ 4096) × StopsBy from 30000 × (n ≤ length (now clip)) × (n ≤ 300) ⌝ }
     ensures { λ r. ⌜ Wrote (each (length (now (clip .entry))) (λ i. when (ltb i n) noNumber (u 2))) (now (clip .entry)) (2 * n) from r
         (now (out .entry)) (now (out .exit)) ⌝ }
@@ -159,146 +164,6 @@ fn put_luma(out: &mut [u8], from: Stop, signal: bool, d: VvcAlfLuma) -> Stop
     let flagged = put_flag(out, from, clip);
     let counted = put_ue_to(out, flagged, count, 24);
     put_luma_filters(out, counted, clip, count, &idx, &abs, &sign, &clips)
-}
-
-// One alternative, a row of the flat arrays: its coefficients and its clips.
-fn put_alternative(
-    out: &mut [u8],
-    from: Stop,
-    clip: bool,
-    count_minus1: u32,
-    row: usize,
-    abs: &[u32],
-    sign: &[bool],
-    clips: &[u8],
-) -> Stop
-    requires { ⌜ (length (now out) ≡ 4096) × StopsBy from 19000 × (row < 8)
-        × (length (now abs) ≡ 48) × (length (now sign) ≡ 48) × (length (now clips) ≡ 48) ⌝ }
-    ensures { λ r. ⌜ Wrote (alternative clip «count_minus1» row)
-        (take 6 (drop (6 * row) (zipped (now (abs .entry)) (now (sign .entry)))), take 6 (drop (6 * row) (now (clips .entry)))) 108 from r
-        (now (out .entry)) (now (out .exit)) ⌝ }
-{
-    let start = 6 * row;
-    let end = start + 6;
-    let n = if row <= count_minus1 as usize { 6 } else { 0 };
-    let coefficients = put_coefficients(out, from, n, &abs[start..end], &sign[start..end]);
-    put_clips(out, coefficients, clips_sent(clip, n), &clips[start..end])
-}
-
-// The alternatives, one after another.
-fn put_alternatives(
-    out: &mut [u8],
-    from: Stop,
-    clip: bool,
-    count_minus1: u32,
-    abs: &[u32],
-    sign: &[bool],
-    clips: &[u8],
-) -> Stop
-    requires { ⌜ (length (now out) ≡ 4096) × StopsBy from 15000
-        × (length (now abs) ≡ 48) × (length (now sign) ≡ 48) × (length (now clips) ≡ 48) ⌝ }
-    ensures { λ r. ⌜ Wrote (alternatives clip «count_minus1») (zipped (now (abs .entry)) (now (sign .entry)), now (clips .entry)) 864 from r
-        (now (out .entry)) (now (out .exit)) ⌝ }
-{
-    let mut at = from;
-    let mut row: usize = 0;
-    while row < 8 {
-        at = put_alternative(out, at, clip, count_minus1, row, abs, sign, clips);
-        row += 1;
-    }
-    at
-}
-
-// Nothing is sent of chroma: all of it is 0.
-fn no_chroma_sent(clip: bool, count_minus1: u32, abs: &[u32], sign: &[bool], clips: &[u8]) -> bool
-    requires { ⌜ (length (now abs) ≡ 48) × (length (now sign) ≡ 48) × (length (now clips) ≡ 48) ⌝ }
-    ensures { λ r. ⌜ r ≡ noChroma .is (clip, («count_minus1», (zipped (now (abs .entry)) (now (sign .entry)), now (clips .entry)))) ⌝ }
-{
-    if clip {
-        return false;
-    }
-    if count_minus1 != 0 {
-        return false;
-    }
-    if !zero_numbers(abs, 0) {
-        return false;
-    }
-    if !no_flags(sign, 0) {
-        return false;
-    }
-    zero_bytes(clips, 0)
-}
-
-// The chroma filters if they are signalled.
-fn put_chroma(out: &mut [u8], from: Stop, signal: bool, d: VvcAlfChroma) -> Stop
-    requires { ⌜ (length (now out) ≡ 4096) × StopsBy from 14000 ⌝ }
-    ensures { λ r. ⌜ Wrote (chroma signal) d 872 from r (now (out .entry)) (now (out .exit)) ⌝ }
-{
-    let clip = d.alf_chroma_clip_flag;
-    let count = d.alf_chroma_num_alt_filters_minus1;
-    let abs = d.coeff_abs;
-    let sign = d.coeff_sign;
-    let clips = d.clip_idx;
-    if !signal {
-        return put_none(from, no_chroma_sent(clip, count, &abs, &sign, &clips));
-    }
-    let flagged = put_flag(out, from, clip);
-    let counted = put_ue_to(out, flagged, count, 7);
-    put_alternatives(out, counted, clip, count, &abs, &sign, &clips)
-}
-
-// The coefficients of Cb or Cr.
-fn put_cc_coefficients(
-    out: &mut [u8],
-    from: Stop,
-    count_minus1: u32,
-    abs: &[u8],
-    sign: &[bool],
-) -> Stop
-    requires { ⌜ (length (now out) ≡ 4096) × StopsBy from 20000 × («count_minus1» ≤ 3) × (length (now abs) ≡ 28) × (length (now sign) ≡ 28) ⌝ }
-    ensures { λ r. ⌜ Wrote (ccCoefficients «count_minus1») (now (abs .entry), now (sign .entry)) 112 from r (now (out .entry)) (now (out .exit)) ⌝ }
-{
-    let n = 7 * (count_minus1 as usize + 1);
-    let mut at = from;
-    let mut i: usize = 0;
-    while i < n {
-        at = put_signed(out, at, abs[i] as u32, sign[i], 3);
-        i += 1;
-    }
-    let at = put_none(at, zero_bytes(abs, n));
-    put_none(at, no_flags(sign, n))
-}
-
-// Nothing is sent of Cb or Cr: all of it is 0.
-fn no_cc_sent(count_minus1: u32, abs: &[u8], sign: &[bool]) -> bool
-    requires { ⌜ (length (now abs) ≡ 28) × (length (now sign) ≡ 28) ⌝ }
-    ensures { λ r. ⌜ r ≡ noCc .is («count_minus1», (now (abs .entry), now (sign .entry))) ⌝ }
-{
-    if count_minus1 != 0 {
-        return false;
-    }
-    if !zero_bytes(abs, 0) {
-        return false;
-    }
-    no_flags(sign, 0)
-}
-
-// The filters of Cb or Cr if they are signalled.
-fn put_cc(out: &mut [u8], from: Stop, signal: bool, d: VvcAlfCcFilters) -> Stop
-    requires { ⌜ (length (now out) ≡ 4096) × StopsBy from 19000 ⌝ }
-    ensures { λ r. ⌜ Wrote (cc signal) d 117 from r (now (out .entry)) (now (out .exit)) ⌝ }
-{
-    let count = d.filters_signalled_minus1;
-    let abs = d.mapped_coeff_abs;
-    let sign = d.coeff_sign;
-    if !signal {
-        return put_none(from, no_cc_sent(count, &abs, &sign));
-    }
-    if 3 < count {
-        return put_none(from, false);
-    }
-    let counted = put_ue_to(out, from, count, 3);
-    put_cc_coefficients(out, counted, count, &abs, &sign)
 }
 
 // What the four flags announce.

@@ -4,8 +4,8 @@ use borrow.Author.Tests.{not-true, not-false, ne-eqb}
 use mathlib.Core.Path.{sym, _∙_}
 use denote.Ref.{now}
 use Rattle.aps_writer.proofs.AlfWrites.{noCc-fails, noCc-last}
-use Rattle.aps_writer.proofs.alf.no_cc_sent.Statement.{statement}
-use Rattle.aps_writer.proofs.alf.no_cc_sent.Tie as tie
+use Rattle.aps_writer.proofs.alf_chroma.no_cc_sent.Statement.{statement}
+use Rattle.aps_writer.proofs.alf_chroma.no_cc_sent.Tie as tie
 
 returns : tie.Need-returns
 returns c =

@@ -6,8 +6,8 @@ use native.Mathlib.Omega.{arith}
 use Rattle.bitstream.specs.Fields.{ueZeros}
 use Rattle.aps.proofs.StopLaws.{stops-more}
 use Rattle.aps_writer.proofs.AlfWrites.{count-3, cc-none, cc-bad, cc-sent}
-use Rattle.aps_writer.proofs.alf.put_cc.Statement.{statement}
-use Rattle.aps_writer.proofs.alf.put_cc.Tie as tie
+use Rattle.aps_writer.proofs.alf_chroma.put_cc.Statement.{statement}
+use Rattle.aps_writer.proofs.alf_chroma.put_cc.Tie as tie
 
 slice-aggregate-no-cc-sent : tie.Need-slice-aggregate-no-cc-sent
 slice-aggregate-no-cc-sent c = search needs

@@ -5,8 +5,8 @@ use mathlib.Core.Path.{sym, ap, _∙_}
 use mathlib.Core.Bool.{not}
 use denote.Ref.{now}
 use Rattle.aps_writer.proofs.AlfWrites.{noChroma-fails, noChroma-last}
-use Rattle.aps_writer.proofs.alf.no_chroma_sent.Statement.{statement}
-use Rattle.aps_writer.proofs.alf.no_chroma_sent.Tie as tie
+use Rattle.aps_writer.proofs.alf_chroma.no_chroma_sent.Statement.{statement}
+use Rattle.aps_writer.proofs.alf_chroma.no_chroma_sent.Tie as tie
 
 returns : tie.Need-returns
 returns c =

@@ -9,8 +9,8 @@ use lib.ListN.{length}
 use Rattle.bitstream.specs.Fields.{ueZeros}
 use Rattle.aps.proofs.StopLaws.{stops-more}
 use Rattle.aps_writer.proofs.AlfWrites.{count-7, chroma-none, chroma-sent}
-use Rattle.aps_writer.proofs.alf.put_chroma.Statement.{statement}
-use Rattle.aps_writer.proofs.alf.put_chroma.Tie as tie
+use Rattle.aps_writer.proofs.alf_chroma.put_chroma.Statement.{statement}
+use Rattle.aps_writer.proofs.alf_chroma.put_chroma.Tie as tie
 
 slice-aggregate-no-chroma-sent : tie.Need-slice-aggregate-no-chroma-sent
 slice-aggregate-no-chroma-sent c = search needs

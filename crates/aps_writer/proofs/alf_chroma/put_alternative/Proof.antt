@@ -10,8 +10,8 @@ use denote.Ref.{now}
 use lib.Dec.{leb}
 use Rattle.aps.proofs.StopLaws.{stops-more}
 use Rattle.aps_writer.proofs.AlfFilters.{length-row, alternative-row}
-use Rattle.aps_writer.proofs.alf.put_alternative.Statement.{statement}
-use Rattle.aps_writer.proofs.alf.put_alternative.Tie as tie
+use Rattle.aps_writer.proofs.alf_chroma.put_alternative.Statement.{statement}
+use Rattle.aps_writer.proofs.alf_chroma.put_alternative.Tie as tie
 
 mul-start : tie.Need-mul-start
 mul-start c = search needs

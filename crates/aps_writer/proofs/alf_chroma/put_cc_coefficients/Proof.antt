@@ -14,8 +14,8 @@ use Rattle.aps_writer.proofs.WriteSteps.{Writing, writing-start, spans-
 use Rattle.aps_writer.proofs.SentWrites.{spans-here}
 use Rattle.aps_writer.proofs.ArrayWrites.{firstSent, sent-more, zipped-step, pairs-done}
 use Rattle.aps_writer.proofs.AlfFilters.{cc-wrote}
-use Rattle.aps_writer.proofs.alf.put_cc_coefficients.Statement.{statement}
-use Rattle.aps_writer.proofs.alf.put_cc_coefficients.Tie as tie
+use Rattle.aps_writer.proofs.alf_chroma.put_cc_coefficients.Statement.{statement}
+use Rattle.aps_writer.proofs.alf_chroma.put_cc_coefficients.Tie as tie
 
 abbrev Inv-loop : tie.InvT-loop
 Inv-loop out₀ count-minus1 abs sign n at₀ i₀ out at i =

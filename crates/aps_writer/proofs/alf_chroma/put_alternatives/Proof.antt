@@ -15,8 +15,8 @@ use Rattle.aps_writer.proofs.WriteSteps.{Writing, writing-start, writin
 use Rattle.aps_writer.proofs.SentWrites.{spans-here}
 use Rattle.aps_writer.proofs.ArrayWrites.{wrote-each, rows-step, rows-length}
 use Rattle.aps_writer.proofs.AlfFilters.{alternatives-wrote}
-use Rattle.aps_writer.proofs.alf.put_alternatives.Statement.{statement}
-use Rattle.aps_writer.proofs.alf.put_alternatives.Tie as tie
+use Rattle.aps_writer.proofs.alf_chroma.put_alternatives.Statement.{statement}
+use Rattle.aps_writer.proofs.alf_chroma.put_alternatives.Tie as tie
 
 abbrev rows : List ℕ → List Bool → List ℕ → List (List (ℕ × Bool) × List ℕ)
 rows abs sign clips = zipped (rowsOf 8 6 (zipped abs sign)) (rowsOf 8 6 clips)
