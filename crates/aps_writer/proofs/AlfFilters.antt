@@ -10,8 +10,8 @@ use lib.ListN.{length, take, drop, length-drop}
 use lib.Seq.{length-take-le}
 use Rattle.aps.specs.Codec.{Codec, u, _▷_, judged, when, each}
 use Rattle.aps.specs.Elements.{signed, noNumber, noSigned, every, zipped, apart, rowsOf, flat}
-use Rattle.aps.specs.AlfSyntax.{ceilLog2, coefficient, lumaIndexes, lumaCoefficients, lumaClips, lumaFilters, luma}
-use Rattle.aps.specs.AlfSyntax.{alternative, alternatives, chroma}
+use Rattle.aps.specs.AlfSyntax.{ceilLog2, coefficient, lumaIndexes, lumaCoefficients, lumaClips, lumaFilters}
+use Rattle.aps.specs.AlfSyntax.{alternative, alternatives}
 use Rattle.aps.specs.AlfSyntax.{ccCoefficients}
 use Rattle.aps_writer.specs.Writing.{Wrote, unsent}
 use Rattle.aps.specs.declared.fields.Stop.{Stop}
@@ -23,7 +23,7 @@ use Rattle.aps_writer.proofs.ArrayWrites.{firstSent, sent-by, none-sent
 
 -- ---- one index
 
--- one that is above the count
+-- an index above the count is refused
 pub index-bad : (count-1 bits x : ℕ) {from to : Stop} {out : List ℕ} → count-1 < x → to ≡ unsent from false → Wrote (judged (λ x. leb x count-1) (u bits)) x bits from to out out
 unfolding judged
 index-bad count-1 bits x {from} {to} {out} h e = wrote-bad (judged (λ x. leb x count-1) (u bits)) x bits from to out (rw (lt-leb x count-1 h) (and-false ((u bits) .ok x))) e
@@ -72,7 +72,7 @@ luma-clips-wrote clip n k m {from} {to} {out} {out′} e w =
     let v : Wrote (each 300 (firstSent noNumber (u 2) (cond clip (12 * (n + 1)) 0))) k m from to out out′ = rw e at w in
     rw (← same) v
 
--- the three parts one after another
+-- indexes, coefficients and clips one after another are the luma filters
 pub luma-filters-wrote : (clip : Bool) (n : ℕ) (idx a : List ℕ) (b : List Bool) (k : List ℕ) (sent : ℕ) {from mid mid′ to : Stop} {out out₁ out₂ out₃ : List ℕ}
     → n ≤ 24 → length a ≡ 300 → length k ≡ 300 → sent ≡ cond clip (12 * (n + 1)) 0 → sent ≤ 12 * (n + 1)
     → Wrote (lumaIndexes n) idx 800 from mid out out₁
@@ -93,7 +93,7 @@ module _ {A : Type 0} where
   pub length-row : (w row : ℕ) (l : List A) → w ≡ 6 → row < 8 → length l ≡ 48 → length (take w (drop (6 * row) l)) ≡ 6
   length-row w row l six h e = rw six (length-take-le 6 (drop (6 * row) l) (omega (arith, length-drop (6 * row) l)))
 
--- six entries of a row that is sent, none of another
+-- of a row that is sent six entries are sent, of another none
 six-test : (t : Bool) (j : ℕ) → j < 6 → ltb j (cond t 6 0) ≡ t
 six-test true j h = lt-ltb j 6 h
 six-test false j h = le-ltb j 0 (omega arith)
@@ -121,7 +121,7 @@ alternative-wrote clip count-1 row a b k n sent {from} {mid} {to} {out} {out₁}
     let y″ : Wrote (each 6 (λ j. when (clip && leb row count-1) noNumber (u 2))) k 12 mid to out₁ out₂ = rw (← cut) y′ in
     wrote-▷ (each 6 (λ j. when (leb row count-1) noSigned coefficient)) (λ coeff. each 6 λ j. when (clip && leb row count-1) noNumber (u 2)) (zipped a b) k 96 12 x′ y″
 
--- a row of the three flat arrays
+-- a row of the three flat arrays is an alternative
 pub alternative-row : (clip : Bool) (count-1 row : ℕ) (abs : List ℕ) (sign : List Bool) (clips : List ℕ) (w n sent : ℕ) {from mid to : Stop} {out out₁ out₂ : List ℕ}
     → w ≡ 6 → row < 8 → length abs ≡ 48 → length sign ≡ 48 → length clips ≡ 48 → n ≡ cond (leb row count-1) 6 0 → n ≤ 6 → sent ≡ cond clip n 0 → sent ≤ n
     → Wrote (apart (each (length (take w (drop (6 * row) abs))) (firstSent noSigned coefficient n))) (take w (drop (6 * row) abs), take w (drop (6 * row) sign)) (16 * n) from mid out out₁
@@ -137,7 +137,7 @@ alternative-row clip count-1 row abs sign clips w n sent {from} {mid} {to} {out}
     (alternative-wrote clip count-1 row (take 6 (drop (6 * row) abs)) (take 6 (drop (6 * row) sign)) (take 6 (drop (6 * row) clips)) n sent
     (length-row 6 row abs refl h s) (length-row 6 row sign refl h t) (length-row 6 row clips refl h r) e l f g x′ y′)
 
--- all rows of them
+-- all rows of them are the alternatives
 pub alternatives-wrote : (clip : Bool) (count-1 : ℕ) (abs : List ℕ) (sign : List Bool) (clips : List ℕ) (m : ℕ) {from to : Stop} {out out′ : List ℕ} → length abs ≡ 48 → length sign ≡ 48 → length clips ≡ 48
     → Wrote (each 8 (alternative clip count-1)) (zipped (rowsOf 8 6 (zipped abs sign)) (rowsOf 8 6 clips)) m from to out out′
     → Wrote (alternatives clip count-1) (zipped abs sign, clips) m from to out out′

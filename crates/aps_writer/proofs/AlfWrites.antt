@@ -90,7 +90,7 @@ module _ (clip : Bool) (n : ℕ) (idx a : List ℕ) (b : List Bool) (k : List �
 
 -- ---- the parts, sent or not
 
--- a flag, a count, and what they announce
+-- a flag, a count and what they announce are written one after another
 head-wrote : {A : Type 0} (most : ℕ) (filters : Bool → ℕ → Codec A) (clip : Bool) (n : ℕ) (x : A) (z m : ℕ) {from mid mid′ to : Stop} {out out₁ out₂ out₃ : List ℕ}
     → Wrote flag clip 1 from mid out out₁ → Wrote (ueTo most) n z mid mid′ out₁ out₂ → Wrote (filters clip n) x m mid′ to out₂ out₃
     → Wrote (flag ▷ λ clip. ueTo most ▷ λ n. filters clip n) (clip, (n, x)) (1 + (z + m)) from to out out₃
@@ -196,7 +196,7 @@ module _ (signal : Bool) (d : VvcAlfCcFilters) {from to : Stop} where
 
 -- ---- alf_data( )
 
--- what the flags announce
+-- the four parts one after another are what the flags announce
 pub alf-filters-wrote : (lumaSignal chromaSignal cbSignal crSignal : Bool) (a : VvcAlfLuma) (b : VvcAlfChroma) (c d : VvcAlfCcFilters) {from mid mid′ mid″ to : Stop} {out out₁ out₂ out₃ out₄ : List ℕ}
     → Wrote (luma lumaSignal) a 6300 from mid out out₁ → Wrote (chroma chromaSignal) b 872 mid mid′ out₁ out₂ → Wrote (cc cbSignal) c 117 mid′ mid″ out₂ out₃ → Wrote (cc crSignal) d 117 mid″ to out₃ out₄
     → Wrote (alfFilters lumaSignal chromaSignal cbSignal crSignal) (a, (b, (c, d))) 7406 from to out out₄
@@ -204,7 +204,7 @@ alf-filters-wrote lumaSignal chromaSignal cbSignal crSignal a b c d w x y z =
     wrote-▷ (luma lumaSignal) (λ d. chroma chromaSignal ▷ λ d. cc cbSignal ▷ λ d. cc crSignal) a (b, (c, d)) 6300 1106 w
     (wrote-▷ (chroma chromaSignal) (λ d. cc cbSignal ▷ λ d. cc crSignal) b (c, d) 872 234 x (wrote-▷ (cc cbSignal) (λ d. cc crSignal) c d 117 117 y z))
 
--- the four flags, and what they announce
+-- the four flags and what they announce are the whole
 pub alf-wrote : (chromaPresent : Bool) (d : VvcAlfData) {from s₁ s₂ s₃ s₄ to : Stop} {out out₁ out₂ out₃ out₄ out₅ : List ℕ}
     → Wrote flag (d .«alf_luma_filter_signal_flag») 1 from s₁ out out₁
     → Wrote (when chromaPresent noFlag flag) (d .«alf_chroma_filter_signal_flag») 1 s₁ s₂ out₁ out₂

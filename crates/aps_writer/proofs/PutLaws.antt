@@ -109,7 +109,7 @@ module _ {m : ℕ} {s : Bool} {from to : Stop} where
   pub sign-sent : {out out′ : List ℕ} → (m ≡ 0 → ⊥) → Wrote flag s 1 from to out out′ → Wrote (when (not (eqb m 0)) noFlag flag) s 1 from to out out′
   sign-sent n w = when-sent noFlag flag s 1 (rw (ne-eqb m 0 n)) w
 
--- a magnitude, then its sign
+-- a magnitude and then its sign are a signed value
 pub sign-after : (c : Codec ℕ) {abs : ℕ} {sign : Bool} {m : ℕ} {from mid to : Stop} {out out₁ out₂ : List ℕ}
     → Wrote c abs m from mid out out₁ → Wrote (when (not (eqb abs 0)) noFlag flag) sign 1 mid to out₁ out₂ → Wrote (signed c) (abs, sign) (m + 1) from to out out₂
 unfolding signed

@@ -37,7 +37,7 @@ use Rattle.aps_writer.proofs.WriteSteps.{writes-via, wrote-as, wrote-�
 
 -- ---- the payload
 
--- an id that the kind does not have
+-- an id that the kind does not have is not taken
 module _ (id : ℕ) (chroma : Bool) where
   pub alf-id-wide : (d : VvcAlfData) → 7 < id → (payload 0 id chroma) .ok (ofAlf d) ≡ false
   unfolding payload judged
@@ -82,7 +82,7 @@ sent-is : (a : VvcAps) (k : ApsKind) → a .kind ≡ k → a .«aps_extension_fl
 unfolding fromAps
 sent-is a k e f = ap (λ (k : ApsKind). sent a k (a .«aps_extension_flag»)) e ∙ ap (sent a k) f
 
--- the five parts of a set one after another
+-- the five parts one after another are the set
 pub set-wrote : (set : VvcAps) (k : ApsKind) {a b c d e f : Stop} {o o₁ o₂ o₃ o₄ o₅ : List ℕ} → set .kind ≡ k → set .«aps_extension_flag» ≡ false
     → Wrote (u 3) (numberOf k) 3 a b o o₁
     → Wrote (u 5) (set .«aps_adaptation_parameter_set_id») 5 b c o₁ o₂

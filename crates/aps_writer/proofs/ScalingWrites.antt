@@ -32,21 +32,15 @@ use Rattle.aps_writer.proofs.ArrayWrites.{wrote-each}
 
 -- ---- one step
 
-not-is : {b : Bool} → b ≡ false → not b ≡ true
-not-is e = rw e
-
-is-not : {b : Bool} → b ≡ true → not b ≡ false
-is-not e = rw e
-
 module _ (id i : ℕ) (prev v : ℤ) {from to : Stop} where
   -- a skipped one repeats the sum
   pub step-repeated : {out : List ℕ} → skipped id i ≡ true → to ≡ unsent from (eqZ v prev) → Wrote (stepAt id i prev) v 17 from to out out
-  step-repeated k e = when-unsent (just prev) (step prev) v 17 (is-not k) e
+  step-repeated k e = when-unsent (just prev) (step prev) v 17 (ap not k) e
 
   -- one that is not skipped is sent as the difference to the sum
   pub step-sent : {out out′ : List ℕ} → skipped id i ≡ false → Wrote se8 (v -ℤ prev) 17 from to out out′ → Wrote (stepAt id i prev) v 17 from to out out′
   unfolding step
-  step-sent k w = when-sent (just prev) (step prev) v 17 (not-is k) (wrote-via (λ d. d +ℤ prev) (λ v. v -ℤ prev) (λ v. true) se8 v 17 refl w)
+  step-sent k w = when-sent (just prev) (step prev) v 17 (ap not k) (wrote-via (λ d. d +ℤ prev) (λ v. v -ℤ prev) (λ v. true) se8 v 17 refl w)
 
   -- a difference that is not in -128..127 is refused
   pub step-bad : {out : List ℕ} → skipped id i ≡ false → se8 .ok (v -ℤ prev) ≡ false → to ≡ unsent from false → Wrote (stepAt id i prev) v 17 from to out out
@@ -76,12 +70,12 @@ delta-bits id h = let z : ueZeros (maxIdDelta id) ≤ 4 = zeros-mono (maxIdDelta
 -- ---- the sums of a list
 
 module _ (id i : ℕ) (prev : ℤ) (out : List ℕ) (p : ℕ) where
-  -- no sum is left
+  -- no sums are nothing to write
   writes-none-left : writes (sums id i 0 prev) [] out p ≡ value out p
   unfolding sums
   writes-none-left = writes-nil (λ j. step prev) 0 out p
 
-  -- a sum, then those after it
+  -- a sum is written, then those after it
   writes-sums : (n : ℕ) (v : ℤ) (vs : List ℤ)
       → writes (sums id i (suc n) prev) (v ∷ vs) out p ≡ (writes (stepAt id i prev) v out p then λ o q. writes (sums id (suc i) n v) vs o q)
   unfolding sums

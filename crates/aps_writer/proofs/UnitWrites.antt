@@ -89,7 +89,7 @@ module _ (out bytes : List ℕ) (type : ℕ) where
   unfolding unitOf
   unit-length = omega arith
 
-  -- no room for the header
+  -- with no room for the header it is refused
   pub unit-short : length out < 2 → (refused 5 ≡ putBytes out (unitOf type bytes)) × (out ≡ left out (putBytes out (unitOf type bytes)))
   unit-short h = not-copied out (unitOf type bytes) (omega (arith, unit-length))
 
@@ -125,7 +125,7 @@ module _ (out bytes : List ℕ) (type : ℕ) where
           let m : n + 2 ≡ suc (suc (length (escape bytes))) = omega arith in
           wrote out (out-fits out (0 ∷ (type * 8 + 1) ∷ escape bytes) (omega (arith, rest-length)) ∙ rw (s, m))
 
-    -- no room for what follows the header
+    -- with no room for what follows the header it is refused
     pub unit-refused : (last : List ℕ) (n : ℕ) → refused n ≡ rbspToEbsp bytes rest → last ≡ left rest (rbspToEbsp bytes rest)
         → (refused n ≡ putBytes out (unitOf type bytes)) × (putMid 2 (length out - 2) out last ≡ left out (putBytes out (unitOf type bytes)))
     unit-refused last n e k =
@@ -158,11 +158,12 @@ module _ (set : VvcAps) (out : List ℕ) where
 
   -- a set that is refused
   module _ (n : ℕ) (e : refused n ≡ bytesDue set) where
-    -- a set that is refused is so by either call
+    -- it is refused as an RBSP
     pub aps-refused : (refused n ≡ writeAps set out) × (out ≡ left out (writeAps set out))
     unfolding writeAps
     aps-refused = wrote out (ap (λ (o : Outcome (List ℕ)). o then λ bytes n. putBytes out bytes) (sym e))
 
+    -- and as a unit
     pub nal-refused : (type : ℕ) → isAps type ≡ true → (refused n ≡ writeApsNal set type out) × (out ≡ left out (writeApsNal set type out))
     unfolding writeApsNal
     nal-refused type t = wrote out (rw t (ap (λ (o : Outcome (List ℕ)). o then λ bytes n. putBytes out (unitOf type bytes)) (sym e)))
