@@ -182,7 +182,7 @@ pub fn sample() -> Vec<Change> {
     ] {
         of(&format!("scaling, {what}"), &COPIES, index, value, 100);
     }
-    let scaling = lists(&[0, 2, 7, 26, 27], 31);
+    let scaling = lists(&[0, 2, 7, 26, 27], 227);
     let list = |id: usize, i: usize| 1330 + 64 * id + i;
     for (what, index, value) in [
         ("as it is", 0, 2),
