@@ -87,52 +87,79 @@ fn lists(sent: &[usize], seed: u64) -> Vec<u8> {
     aps::write_aps(&set).expect("a set in range is written")
 }
 
-pub fn sample() -> Vec<Change> {
-    let mut out = Vec::new();
-    let mut of = |name: &str, rbsp: &[u8], index: usize, value: i64, room: usize| {
-        out.push(Change {
-            name: format!("written, {name}"),
-            rbsp: rbsp.to_vec(),
-            index,
-            value,
-            room,
-        });
-    };
-    for room in [0, 1, 2, 3, 4, 5] {
-        of(&format!("ALF, nothing sent, {room} bytes"), &NOTHING, 0, 0, room);
+fn one(name: String, rbsp: &[u8], index: usize, value: i64, room: usize) -> Change {
+    Change {
+        name: format!("written, {name}"),
+        rbsp: rbsp.to_vec(),
+        index,
+        value,
+        room,
     }
-    of("ALF, extension flag 1", &extended(&NOTHING), 3, 1, 100);
-    of("ALF, extension flag 1, no room", &extended(&NOTHING), 3, 1, 0);
-    of("ALF, extension flag 1 and id 8", &extended(&NOTHING), 1, 8, 100);
+}
+
+/// One set with each of these numbers changed.
+fn each(before: &str, rbsp: &[u8], room: usize, changes: &[(&str, usize, i64)]) -> Vec<Change> {
+    let changed = |&(what, index, value): &(&str, usize, i64)| one(format!("{before}{what}"), rbsp, index, value, room);
+    changes.iter().map(changed).collect()
+}
+
+/// Outputs of every length, extension flag 1, and ids.
+fn heads() -> Vec<Change> {
+    let mut out = Vec::new();
+    for room in [0, 1, 2, 3, 4, 5] {
+        out.push(one(format!("ALF, nothing sent, {room} bytes"), &NOTHING, 0, 0, room));
+    }
+    out.push(one("ALF, extension flag 1".into(), &extended(&NOTHING), 3, 1, 100));
+    out.push(one(
+        "ALF, extension flag 1, no room".into(),
+        &extended(&NOTHING),
+        3,
+        1,
+        0,
+    ));
+    out.push(one(
+        "ALF, extension flag 1 and id 8".into(),
+        &extended(&NOTHING),
+        1,
+        8,
+        100,
+    ));
     for id in [7, 8, 31, 255] {
-        of(&format!("ALF id {id}"), &NOTHING, 1, id, 100);
-        of(&format!("scaling id {id}"), &COPIES, 1, id, 100);
+        out.push(one(format!("ALF id {id}"), &NOTHING, 1, id, 100));
+        out.push(one(format!("scaling id {id}"), &COPIES, 1, id, 100));
     }
     for id in [3, 4, 255] {
-        of(&format!("LMCS id {id}"), &ONE_BIN, 1, id, 100);
+        out.push(one(format!("LMCS id {id}"), &ONE_BIN, 1, id, 100));
     }
-    of("id 8 and no room", &NOTHING, 1, 8, 0);
-    for (what, index) in [
-        ("a luma clip flag", 8),
-        ("a luma count", 9),
-        ("a luma index", 34),
-        ("a luma magnitude", 334),
-        ("a luma sign", 634),
-        ("a luma clip", 934),
-        ("a chroma flag without chroma", 5),
-        ("a chroma count", 936),
-        ("a chroma magnitude", 984),
-        ("a chroma clip", 1080),
-        ("a Cb magnitude", 1109),
-        ("a Cr sign", 1194),
-        ("a luma flag alone", 4),
-        ("a number of LMCS", 1195),
-        ("a number of scaling", 3121),
-    ] {
-        of(&format!("ALF, nothing sent, with {what}"), &NOTHING, index, 1, 100);
-    }
-    let alf = made(0, Style::Typical, 30);
-    for (what, index, value) in [
+    out.push(one("id 8 and no room".into(), &NOTHING, 1, 8, 0));
+    out
+}
+
+/// Something where nothing is sent.
+fn nothing_sent() -> Vec<Change> {
+    let changes = [
+        ("a luma clip flag", 8, 1),
+        ("a luma count", 9, 1),
+        ("a luma index", 34, 1),
+        ("a luma magnitude", 334, 1),
+        ("a luma sign", 634, 1),
+        ("a luma clip", 934, 1),
+        ("a chroma flag without chroma", 5, 1),
+        ("a chroma count", 936, 1),
+        ("a chroma magnitude", 984, 1),
+        ("a chroma clip", 1080, 1),
+        ("a Cb magnitude", 1109, 1),
+        ("a Cr sign", 1194, 1),
+        ("a luma flag alone", 4, 1),
+        ("a number of LMCS", 1195, 1),
+        ("a number of scaling", 3121, 1),
+    ];
+    each("ALF, nothing sent, with ", &NOTHING, 100, &changes)
+}
+
+/// Filters at and past their limits.
+fn filters() -> Vec<Change> {
+    let changes = [
         ("as it is", 0, 0),
         ("luma magnitude 128", 35, 128),
         ("luma magnitude 129", 35, 129),
@@ -144,10 +171,13 @@ pub fn sample() -> Vec<Change> {
         ("a surplus clip", 934, 3),
         ("a clip of 4", 635, 4),
         ("a chroma count of 8", 936, 8),
-    ] {
-        of(&format!("ALF {what}"), &alf, index, value, 3_000);
-    }
-    for (what, index, value) in [
+    ];
+    each("ALF ", &made(0, Style::Typical, 30), 3_000, &changes)
+}
+
+/// One bin, and what is inferred beside it.
+fn bins() -> Vec<Change> {
+    let changes = [
         ("a sign at 0", 1214, 1),
         ("a codeword of 1", 1198, 1),
         ("a codeword of 2", 1198, 2),
@@ -162,10 +192,13 @@ pub fn sample() -> Vec<Change> {
         ("chroma delta without chroma", 1230, 1),
         ("chroma sign without chroma", 1231, 1),
         ("chroma flag", 2, 1),
-    ] {
-        of(&format!("LMCS, {what}"), &ONE_BIN, index, value, 100);
-    }
-    for (what, index, value) in [
+    ];
+    each("LMCS, ", &ONE_BIN, 100, &changes)
+}
+
+/// Copies, and what is not looked at.
+fn copies() -> Vec<Change> {
+    let changes = [
         ("an uncoded id not copied", 1232, 0),
         ("an uncoded id predicted", 1260, 1),
         ("an uncoded delta", 1288, 7),
@@ -179,12 +212,14 @@ pub fn sample() -> Vec<Change> {
         ("id 2 not copied", 1234, 0),
         ("id 27 not copied", 1259, 0),
         ("chroma flag", 2, 1),
-    ] {
-        of(&format!("scaling, {what}"), &COPIES, index, value, 100);
-    }
-    let scaling = lists(&[0, 2, 7, 26, 27], 227);
+    ];
+    each("scaling, ", &COPIES, 100, &changes)
+}
+
+/// Entries at and past their limits.
+fn entries() -> Vec<Change> {
     let list = |id: usize, i: usize| 1330 + 64 * id + i;
-    for (what, index, value) in [
+    let changes = [
         ("as it is", 0, 2),
         ("DC 127", 1329, 127),
         ("DC 128", 1329, 128),
@@ -196,9 +231,13 @@ pub fn sample() -> Vec<Change> {
         ("an entry past the matrix of id 7", list(7, 16), 9),
         ("the last unread entry of id 27", list(27, 63), 9_999),
         ("the first unread entry of id 26", list(26, 39), 9_999),
-    ] {
-        of(&format!("scaling {what}"), &scaling, index, value, 3_000);
-    }
+    ];
+    each("scaling ", &lists(&[0, 2, 7, 26, 27], 227), 3_000, &changes)
+}
+
+/// Sets of every kind and style into outputs around the bytes due.
+fn rooms() -> Vec<Change> {
+    let mut out = Vec::new();
     for (kind, name) in [(0, "ALF"), (1, "LMCS"), (2, "scaling")] {
         for (style, how) in STYLES.into_iter().zip(["sparse", "typical", "extreme", "full"]) {
             let rbsp = made(kind, style, 40 + u64::from(kind));
@@ -208,9 +247,16 @@ pub fn sample() -> Vec<Change> {
                 _ => vec![n, n - 1, n + 2, n + 40],
             };
             for room in rooms {
-                of(&format!("{how} {name}, {room} bytes"), &rbsp, 0, kind.into(), room);
+                out.push(one(format!("{how} {name}, {room} bytes"), &rbsp, 0, kind.into(), room));
             }
         }
     }
     out
+}
+
+pub fn sample() -> Vec<Change> {
+    [heads(), nothing_sent(), filters(), bins(), copies(), entries(), rooms()]
+        .into_iter()
+        .flatten()
+        .collect()
 }
