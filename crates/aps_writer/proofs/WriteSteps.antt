@@ -22,7 +22,6 @@ use Rattle.aps.specs.Stops.{after, Spans}
 use Rattle.aps_writer.specs.Writing.{writes, Wrote, unsent}
 use Rattle.aps.specs.declared.fields.Stop.{Stop}
 use Rattle.aps.specs.declared.fields.Stop.the-variants as Stop
-use Rattle.aps.proofs.Lawful.{Lawful}
 use Rattle.aps.proofs.StopLaws.{after-same, after-end}
 
 -- ---- how each piece is written
@@ -167,20 +166,6 @@ module _ {A : Type 0} (c : Codec A) (a : A) (m : ℕ) where
     -- one whose condition holds
     pub wrote-provided : (b : Bool) → b ≡ true → Wrote c a m from to out out′ → Wrote (provided b c) a m from to out out′
     wrote-provided b t = wrote-as (provided b c) a λ p. sym (writes-provided b c a out p ∙ rw t)
-
-    -- the bits that a lawful piece takes
-    pub wrote-lawful : (n : ℕ) → Lawful c n → Wrote c a m from to out out′ → Wrote c a n from to out out′
-    wrote-lawful n C w = record { answer = w .answer; within = go from to (c .ok a) refl (w .answer) }
-      where
-        go : (from to : Stop) (b : Bool) → c .ok a ≡ b → outcomeStop to out′ ≡ after from (writes c a out) → Spans from to n
-        go (Stop.End p) (Stop.End q) true o e j s =
-            let f : value out′ q ≡ value (putBits out p (c .emit a)) (p + length (c .emit a)) = e ∙ writes-taken c a out p o in
-            let g : q ≡ p + length (c .emit a) = cc in
-            omega (arith, C .most a o)
-        go (Stop.End p) (Stop.End q) false o e j s = absurd (value-refused (e ∙ writes-not c a out p o))
-        go (Stop.End p) (Stop.Refused x) b o e j s = tt
-        go (Stop.Refused x) (Stop.End q) b o e j s = absurd (value-refused e)
-        go (Stop.Refused x) (Stop.Refused y) b o e j s = tt
 
 -- a value that is not taken, whatever came before
 pub wrote-bad : {A : Type 0} (c : Codec A) (a : A) (m : ℕ) (from to : Stop) (out : List ℕ) → c .ok a ≡ false → to ≡ unsent from false → Wrote c a m from to out out
