@@ -121,7 +121,7 @@ fn write_rbsp(set: VvcAps, buffer: &mut [u8]) -> Size
 }
 
 // Bytes put at the start of the output if it has room for them.
-fn copy_out(bytes: &[u8], out: &mut [u8]) -> Size
+pub fn copy_out(bytes: &[u8], out: &mut [u8]) -> Size
     ensures answer { λ r. ⌜ outcomeSize r (now (out .exit)) ≡ putBytes (now (out .entry)) (now (bytes .entry)) ⌝ }
     ensures bytes { λ _. ⌜ now (out .exit) ≡ left (now (out .entry)) (putBytes (now (out .entry)) (now (bytes .entry))) ⌝ }
 {

@@ -123,7 +123,7 @@ pub escape-trailing : (l : List ℕ) → zerosAtEnd 0 l ≡ 0 → zerosAtEnd 0 (
 escape-trailing l = trailing-from 0 0 l (λ e. e)
 
 -- a last byte other than 00 is no zero byte at the end
-none-at-end : (z : ℕ) (l : List ℕ) (n : ℕ) → length l ≡ suc n → (getD l n 0 ≡ 0 → ⊥) → zerosAtEnd z l ≡ 0
+pub none-at-end : (z : ℕ) (l : List ℕ) (n : ℕ) → length l ≡ suc n → (getD l n 0 ≡ 0 → ⊥) → zerosAtEnd z l ≡ 0
 unfolding zerosAtEnd
 none-at-end z [] n s h = absurd (omega arith)
 none-at-end z (b ∷ []) zero s h = zeroRun-other z b h

@@ -3,6 +3,9 @@ pub mod bit_reader;
 pub mod bit_writer;
 pub mod nal;
 
+ghost use mathlib.Core.Path.{_≡_};
+ghost use Rattle.bitstream.specs.Outcome.{number as numberOf};
+
 // The longest input that is taken, in bytes.
 pub const LONGEST_INPUT: usize = 65536;
 
@@ -17,4 +20,18 @@ pub enum Refusal {
     InputTooLong,
     OutputTooShort,
     EmptyPlace,
+}
+
+// Document 01's number of a refusal.
+pub fn number(why: Refusal) -> u32
+    ensures { λ r. ⌜ r ≡ numberOf why ⌝ }
+{
+    match why {
+        Refusal::UnexpectedEnd => 1,
+        Refusal::InvalidData => 2,
+        Refusal::Unsupported => 3,
+        Refusal::InputTooLong => 4,
+        Refusal::OutputTooShort => 5,
+        Refusal::EmptyPlace => 6,
+    }
 }

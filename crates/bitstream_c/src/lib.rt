@@ -1,9 +1,9 @@
 // The calls of bitstream for C or Rust to link: 0 with the answer in the lent array, or a refusal's number with the array as it was.
-use bitstream::Refusal;
+use bitstream::number;
 ghost use mathlib.Core.Path.{_≡_};
 ghost use mathlib.Core.List.{List};
 ghost use Prim.Native.Nat.{ℕ};
-ghost use Rattle.bitstream.specs.Outcome.{left, number as numberOf};
+ghost use Rattle.bitstream.specs.Outcome.{left};
 ghost use Rattle.bitstream.specs.Reading.{outcomeU, outcomeS, outcomeT, uAt, ueAt, seAt, trailingAt};
 ghost use Rattle.bitstream.specs.Writing.{outcomeW, writeBitsAt, writeUeAt, writeSeAt, writeTrailingAt};
 ghost use Rattle.bitstream.specs.Escapes.{outcomeSize, ebspToRbsp, rbspToEbsp};
@@ -16,19 +16,6 @@ use bitstream::bit_writer;
 use bitstream::bit_writer::Written;
 use bitstream::nal;
 use bitstream::nal::Size;
-
-fn number(e: Refusal) -> u32
-    ensures { λ r. ⌜ r ≡ numberOf e ⌝ }
-{
-    match e {
-        Refusal::UnexpectedEnd => 1,
-        Refusal::InvalidData => 2,
-        Refusal::Unsupported => 3,
-        Refusal::InputTooLong => 4,
-        Refusal::OutputTooShort => 5,
-        Refusal::EmptyPlace => 6,
-    }
-}
 
 fn unsigned(f: FieldU, answer: &mut [u64; 2]) -> u32
     ensures code { λ r. ⌜ r ≡ code (outcomeU f) ⌝ }

@@ -1,5 +1,6 @@
 // Words, numbers and bytes to standard output.
 use bitstream::Refusal;
+use bitstream::number as refusal_number;
 ghost use Prim.Native.Nat.{_<_};
 
 pub fn text(s: &[u8]) {
@@ -62,20 +63,9 @@ pub fn bytes(s: &[u8]) {
     }
 }
 
-fn refusal(e: Refusal) -> u64 {
-    match e {
-        Refusal::UnexpectedEnd => 1,
-        Refusal::InvalidData => 2,
-        Refusal::Unsupported => 3,
-        Refusal::InputTooLong => 4,
-        Refusal::OutputTooShort => 5,
-        Refusal::EmptyPlace => 6,
-    }
-}
-
 pub fn refused(e: Refusal) {
     text(b" refused ");
-    number(refusal(e));
+    number(refusal_number(e) as u64);
 }
 
 // The bit after a field.

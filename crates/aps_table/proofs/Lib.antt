@@ -1,0 +1,14 @@
+pub mod BookLaws
+pub mod CutLaws
+pub mod Demand3
+pub mod Examples
+pub mod HeldSteps
+pub mod ListLaws
+pub mod ListSteps
+pub mod PlaceSteps
+pub mod SplitLaws
+pub mod SplitTurns
+pub mod StoreLaws
+pub mod Streaming
+pub mod TakeSteps
+pub mod UnitLaws

@@ -1,0 +1,177 @@
+-- What each way through the code of the list comes to: the bytes in the buffer up to a stop.
+use borrow.Author.Tests.{le-ltb}
+use borrow.Rule.Slice.PartMut.{midOf, putMid}
+use mathlib.Core.Path.{_≡_, refl, sym, ap, _∙_}
+use mathlib.Core.List.{List, [], _∷_, _++_, append-assoc}
+use mathlib.Core.Option.{Option, none, some}
+use Prim.Native.Nat.{ℕ, zero, suc, _+_, _-_, _≤_}
+use native.Mathlib.Omega.{arith}
+use lib.ListN.{length, take, drop, set, length-append, length-drop}
+use lib.Seq.{sets, sets-eq, length-take-le, take-append-le, take-append-add, take-append-seam, take-take, drop-at}
+use Rattle.bitstream.specs.Outcome.{Outcome, value, refused, left, number, _then_}
+use Rattle.bitstream.specs.Escapes.{escape, putBytes, rbspToEbsp}
+use Rattle.bitstream.specs.declared.Refusal.{Refusal}
+use Rattle.bitstream.proofs.CodeLaws.{value-refused}
+use Rattle.bitstream.proofs.EscapeLaws.{escape-most}
+use Rattle.bitstream.proofs.WriteLaws.{wrote}
+use Rattle.aps.specs.Rbsp.{readRbsp}
+use Rattle.aps.specs.Stops.{StopsBy}
+use Rattle.aps.specs.declared.fields.Stop.{Stop}
+use Rattle.aps.specs.declared.fields.Stop.the-variants as Stop
+use Rattle.aps.specs.declared.aps.VvcAps.{VvcAps}
+use Rattle.aps_writer.specs.Writing.{unitOf}
+use Rattle.aps_table.specs.Places.{Entries, Names, largest, ids, names, placeBytes, under, held, kindIn}
+use Rattle.aps_table.specs.List.{coded, entry, entryDue, joined, listed, writeList, upTo, listAt}
+use Rattle.aps_table.proofs.ListLaws.{joined-first, joined-last, joined-joined, listed-append, listed-next, held-some, listed-due, entry-fits}
+
+-- ---- a unit after its start code
+
+-- the buffer with a start code and the header of a unit of type 17 at p, and `last` after them
+abbrev withCode : List ℕ → ℕ → List ℕ → List ℕ
+withCode out p last = set (set (set (set (set (set (putMid (p + 6) (length out - (p + 6)) out last) p 0) (p + 1) 0) (p + 2) 0) (p + 3) 1) (p + 4) 0) (p + 5) 137
+
+module _ (out : List ℕ) (p : ℕ) (bytes : List ℕ) (h : (p + 4402 ≤ length out) × (length bytes ≤ 2931)) where
+  -- the bytes with escapes put in
+  abbrev escaped : List ℕ
+  escaped = escape bytes
+
+  -- the buffer after the header
+  abbrev rest : List ℕ
+  rest = midOf (p + 6) (length out - (p + 6)) out
+
+  -- it has room for the escaped bytes
+  unit-room : rbspToEbsp bytes rest ≡ value (escaped ++ drop (length escaped) rest) (length escaped)
+  unfolding rbspToEbsp putBytes
+  unit-room =
+      let m : length rest ≡ length out - (p + 6) = length-take-le (length out - (p + 6)) (drop (p + 6) out) (omega (arith, h, length-drop (p + 6) out)) in
+      rw (le-ltb 65536 (length bytes) (omega (arith, h)), le-ltb (length rest) (length escaped) (omega (arith, h, escape-most bytes)))
+
+  -- so no refusal comes
+  pub unit-refused : (n : ℕ) → refused n ≡ rbspToEbsp bytes rest → refused n ≡ joined (value (take p out) p) (value (coded bytes) (length (coded bytes)))
+  unit-refused n f = absurd (value-refused (sym (f ∙ unit-room)))
+
+  -- the start code and the header stand before what was put
+  code-put : (more : List ℕ) → take (p + 6 + length escaped) (withCode out p (escaped ++ more)) ≡ take p out ++ coded bytes
+  unfolding unitOf
+  code-put more =
+      let s : List ℕ = 0 ∷ 0 ∷ 0 ∷ 1 ∷ 0 ∷ 137 ∷ [] in
+      let post : List ℕ = more ++ drop (length out - (p + 6)) (drop (p + 6) out) in
+      let l : List ℕ = take (p + 6) out ++ (escaped ++ post) in
+      let n₆ : length (take (p + 6) out) ≡ p + 6 = length-take-le (p + 6) out (omega (arith, h)) in
+      let n : length (take p out) ≡ p = length-take-le p out (omega (arith, h)) in
+      let t : take p l ≡ take p out = take-append-le p (take (p + 6) out) (escaped ++ post) (omega arith) ∙ take-take p (p + 6) out (omega arith) in
+      let d : drop (p + 6) l ≡ escaped ++ post = drop-at (take (p + 6) out) (escaped ++ post) (p + 6) n₆ in
+      let w : sets l p s ≡ take p out ++ (s ++ (escaped ++ post)) = sets-eq s l p (omega (arith, length-append (take (p + 6) out) (escaped ++ post))) ∙ rw (t, d) (append-assoc (take p out) s (escaped ++ post)) in
+      let e₁ : p + 1 ≡ suc p = omega arith in
+      let e₂ : p + 2 ≡ suc (suc p) = omega arith in
+      let e₃ : p + 3 ≡ suc (suc (suc p)) = omega arith in
+      let e₄ : p + 4 ≡ suc (suc (suc (suc p))) = omega arith in
+      let e₅ : p + 5 ≡ suc (suc (suc (suc (suc p)))) = omega arith in
+      let m : p + 6 + length escaped ≡ length (take p out) + suc (suc (suc (suc (suc (suc (length escaped)))))) = omega arith in
+      rw (append-assoc escaped more (drop (length out - (p + 6)) (drop (p + 6) out)), e₁, e₂, e₃, e₄, e₅, w, m, take-append-add (take p out) (s ++ (escaped ++ post)) (suc (suc (suc (suc (suc (suc (length escaped))))))), take-append-seam escaped post)
+
+  -- the start code and the unit after it
+  pub unit-put : (last : List ℕ) (n : ℕ) → value last n ≡ rbspToEbsp bytes rest
+      → (n ≤ 4396) × (value (take (p + 6 + n) (withCode out p last)) (p + 6 + n) ≡ joined (value (take p out) p) (value (coded bytes) (length (coded bytes))))
+  unfolding unitOf
+  unit-put last n f =
+      let g = f ∙ unit-room in
+      let w : last ≡ escaped ++ drop (length escaped) rest = cc in
+      let k : n ≡ length escaped = cc in
+      let s : p + 6 + length escaped ≡ p + suc (suc (suc (suc (suc (suc (length escaped)))))) = omega arith in
+      (omega (arith, h, escape-most bytes), rw (k, w, code-put (drop (length escaped) rest), s))
+
+-- ---- a place
+
+-- the buffer has room for the entry of any place
+pub place-room : (k i p : ℕ) → Names k i → p ≤ listAt k i → p + 4402 ≤ 45492
+place-room zero i p h l = omega arith
+place-room (suc zero) i p h l = omega arith
+place-room (suc (suc k)) i p h l = omega arith
+
+-- the places of a kind come one after another
+list-more : (k i : ℕ) → listAt k i ≤ listAt k (i + 1)
+list-more zero i = omega arith
+list-more (suc zero) i = omega arith
+list-more (suc (suc k)) i = omega arith
+
+-- an entry ends where the next place's may begin
+entry-within : (k i p : ℕ) (b : Option VvcAps) (r : Stop) (last l : List ℕ) → ((a : VvcAps) → b ≡ some a → kindIn a ≡ k) → p ≤ listAt k i → upTo r last ≡ joined (value l p) (entry b)
+    → StopsBy r (listAt k (i + 1))
+entry-within k i p b (Stop.Refused n) last l w h e = tt
+entry-within k i p none (Stop.End q) last l w h e = let s : q ≡ p + 0 = cc in omega (arith, list-more k i)
+entry-within k i p (some a) (Stop.End q) last l w h e = go (entryDue a) refl e
+  where
+    go : (o : Outcome (List ℕ)) → entryDue a ≡ o → value (take q last) q ≡ joined (value l p) o → q ≤ listAt k (i + 1)
+    go (value m n) f e =
+        let s : q ≡ p + n = cc in
+        let v = w a refl in
+        let b : p + n ≤ listAt k (i + 1) = rw v at (entry-fits a m n i p f (rw v h)) in
+        omega arith
+    go (refused n) f e = absurd (value-refused e)
+
+module _ (t : List ℕ) (k i : ℕ) (from : Stop) (buffer : List ℕ) where
+  module _ (p : ℕ) (f : from ≡ Stop.End p) (h : StopsBy from (listAt k i)) where
+    -- a place's bytes begin in time
+    pub place-at : p ≤ listAt k i
+    place-at = rw f at h
+
+    -- the entry of a place's bytes
+    pub place-put : (s : List ℕ) (r : Stop) (last : List ℕ) → s ≡ placeBytes t k i → upTo r last ≡ joined (value (take p buffer) p) (entry (under k i (readRbsp s)))
+        → (upTo r last ≡ joined (upTo from buffer) (entry (held t k i))) × StopsBy r (listAt k (i + 1))
+    unfolding held
+    place-put s r last e w =
+        let v : upTo r last ≡ joined (value (take p buffer) p) (entry (held t k i)) = rw e at w in
+        (v ∙ rw f, entry-within k i p (held t k i) r last (take p buffer) (λ a g. held-some t k i a g .0) place-at v)
+
+  -- a refusal stays
+  pub place-refused : (n : Refusal) → from ≡ Stop.Refused n → refused (number n) ≡ joined (upTo from buffer) (entry (held t k i))
+  place-refused n f = rw f
+
+-- ---- the places of a kind
+
+-- no id is over 7
+pub largest-most : (k : ℕ) → largest k ≤ 7
+largest-most zero = omega arith
+largest-most (suc zero) = omega arith
+largest-most (suc (suc k)) = omega arith
+
+module _ (b : Entries) (k : ℕ) (o : Outcome (List ℕ)) where
+  -- before the first
+  pub kind-start : o ≡ joined o (listed (ids k 0 0) b)
+  unfolding listed
+  kind-start = sym (joined-last o)
+
+  -- one more
+  pub kind-next : (i : ℕ) (p q : Outcome (List ℕ)) → p ≡ joined o (listed (ids k 0 i) b) → q ≡ joined p (entry (b k i)) → q ≡ joined o (listed (ids k 0 (i + 1)) b)
+  kind-next i p q e f =
+      f ∙ ap (λ (x : Outcome (List ℕ)). joined x (entry (b k i))) e ∙ joined-joined o (listed (ids k 0 i) b) (entry (b k i)) ∙ ap (joined o) (sym (listed-next b k i))
+
+  -- all of them
+  pub kind-done : (i n : ℕ) (p : Outcome (List ℕ)) (r : Stop) → i ≡ n → p ≡ joined o (listed (ids k 0 i) b) → StopsBy r (listAt k i)
+      → (p ≡ joined o (listed (ids k 0 n) b)) × StopsBy r (listAt k n)
+  kind-done i n p r e f h = (rw e at f, rw e at h)
+
+-- ---- all places
+
+-- the three kinds one after another
+pub all-listed : (b : Entries) (l m n : Outcome (List ℕ)) → l ≡ joined (value [] 0) (listed (ids 0 0 8) b) → m ≡ joined l (listed (ids 1 0 4) b) → n ≡ joined m (listed (ids 2 0 8) b) → n ≡ listed names b
+all-listed b l m n e f g =
+    let x = listed (ids 0 0 8) b in
+    let y = listed (ids 1 0 4) b in
+    let z = listed (ids 2 0 8) b in
+    let u : l ≡ x = e ∙ joined-first x in
+    rw (g, f, u) (joined-joined x y z ∙ ap (joined x) (sym (listed-append b (ids 1 0 4) (ids 2 0 8))) ∙ sym (listed-append b (ids 0 0 8) (ids 1 0 4 ++ ids 2 0 8)))
+
+-- ---- the list
+
+module _ (t out : List ℕ) where
+  -- entries that are refused
+  pub list-refused : (n : ℕ) → refused n ≡ listed names (held t) → (refused n ≡ writeList t out) × (out ≡ left out (writeList t out))
+  unfolding writeList
+  list-refused n e = wrote out (ap (λ (o : Outcome (List ℕ)). o then λ l n. putBytes out l) (sym (e ∙ listed-due t)))
+
+  -- the list's bytes are put out
+  pub list-bytes : (l : List ℕ) (n : ℕ) → value l n ≡ listed names (held t) → writeList t out ≡ putBytes out l
+  unfolding writeList
+  list-bytes l n e = ap (λ (o : Outcome (List ℕ)). o then λ l n. putBytes out l) (sym (e ∙ listed-due t))

@@ -1,0 +1,9 @@
+pub mod Split
+pub mod NextUnit
+pub mod Places
+pub mod Taking
+pub mod Calls
+pub mod List
+pub mod Book
+pub mod Demand3
+pub mod Answers

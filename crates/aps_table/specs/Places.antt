@@ -1,0 +1,97 @@
+-- The 20 places of the table (document 01, 'A stream enters the table'): where each stands in the table's bytes, and the set that it holds.
+use Prim.Native.Nat.{ℕ, zero, suc, _+_, _*_, _≤_, _<_}
+use mathlib.Core.Bool.{Bool, cond, _&&_}
+use mathlib.Core.List.{List, [], _∷_, _++_}
+use mathlib.Core.Option.{Option, none, some}
+use lib.Dec.{leb, ltb, eqb}
+use lib.ListN.{take, drop, replicate}
+use Rattle.bitstream.specs.Outcome.{Outcome, value, refused}
+use Rattle.aps.specs.ApsSyntax.{numberOf}
+use Rattle.aps.specs.Rbsp.{readRbsp}
+use Rattle.aps.specs.declared.aps.VvcAps.{VvcAps}
+
+-- each kind's largest id
+abbrev pub largest : ℕ → ℕ
+largest zero = 7
+largest (suc zero) = 3
+largest (suc (suc k)) = 7
+
+-- a kind and an id that name a place
+abbrev pub Names : ℕ → ℕ → Type 0
+Names k i = (k < 3) × (i ≤ largest k)
+
+unfoldable pub named : ℕ → ℕ → Bool
+named k i = ltb k 3 && leb i (largest k)
+
+-- n ids of kind k, from i on
+abbrev pub ids : ℕ → ℕ → ℕ → List (ℕ × ℕ)
+ids k i zero = []
+ids k i (suc n) = (k, i) ∷ ids k (suc i) n
+
+-- the 20 kinds and ids: kind rising, then id rising
+abbrev pub names : List (ℕ × ℕ)
+names = ids 0 0 8 ++ (ids 1 0 4 ++ ids 2 0 8)
+
+-- ---- the bytes
+
+-- the most bytes that a set of the kind takes
+abbrev pub placeSize : ℕ → ℕ
+placeSize zero = 832
+placeSize (suc zero) = 37
+placeSize (suc (suc k)) = 2931
+
+-- where a place begins: 8 places of 832 bytes, 4 of 37 and 8 of 2,931
+abbrev pub placeAt : ℕ → ℕ → ℕ
+placeAt zero i = i * 832
+placeAt (suc zero) i = 6656 + i * 37
+placeAt (suc (suc k)) i = 6804 + i * 2931
+
+unfoldable pub placeBytes : List ℕ → ℕ → ℕ → List ℕ
+placeBytes t k i = take (placeSize k) (drop (placeAt k i) t)
+
+-- all places empty
+unfoldable pub newTable : List ℕ
+newTable = replicate 30252 0
+
+-- ---- the sets
+
+-- a set's kind as a number, and its id
+unfoldable pub kindIn : VvcAps → ℕ
+kindIn a = numberOf (a .kind)
+
+unfoldable pub idIn : VvcAps → ℕ
+idIn a = a .«aps_adaptation_parameter_set_id»
+
+unfoldable pub extended : VvcAps → Bool
+extended a = a .«aps_extension_flag»
+
+-- for each kind and id a set or none
+abbrev pub Entries : Type 0
+Entries = ℕ → ℕ → Option VvcAps
+
+-- a set that was read, if it is of kind k and id i
+abbrev pub under : ℕ → ℕ → Outcome VvcAps → Option VvcAps
+under k i (value a q) = cond (eqb (kindIn a) k && eqb (idIn a) i) (some a) none
+under k i (refused n) = none
+
+-- a place is filled exactly where its bytes read as a set of its kind and id
+unfoldable pub held : List ℕ → Entries
+held t k i = under k i (readRbsp (placeBytes t k i))
+
+-- ---- the lookup
+
+pub data Looked : Type 0 where
+  found : VvcAps → Looked
+  missing : ℕ → Looked
+
+-- 6: the place is empty
+abbrev pub foundIn : Option VvcAps → Looked
+foundIn none = missing 6
+foundIn (some a) = found a
+
+-- 2: kind and id name no place
+unfoldable pub look : Entries → ℕ → ℕ → Looked
+look b k i = cond (named k i) (foundIn (b k i)) (missing 2)
+
+abbrev pub lookedUp : List ℕ → ℕ → ℕ → Looked
+lookedUp t k i = look (held t) k i
