@@ -1,3 +1,4 @@
 pub mod Numbers
 pub mod SetOf
 pub mod Codes
+pub mod TableCodes

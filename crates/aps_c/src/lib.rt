@@ -12,36 +12,26 @@ use aps::nal_header::parse_nal_header;
 use aps::unit::parse_aps;
 use aps_writer::write::write_aps;
 use aps_writer::write::write_aps_nal;
-use bitstream::Refusal;
 use bitstream::nal::Size;
+use bitstream::nal::ebsp_to_rbsp;
+use bitstream::nal::rbsp_to_ebsp;
+use bitstream::number;
 ghost use mathlib.Core.Path.{_≡_};
 ghost use mathlib.Core.List.{List};
 ghost use Prim.Native.Nat.{ℕ};
 ghost use lib.ListN.{length};
 ghost use lib.Seq.{sets};
-ghost use Rattle.bitstream.specs.Outcome.{number as numberOf, left};
-ghost use Rattle.bitstream.specs.Escapes.{outcomeSize};
+ghost use Rattle.bitstream.specs.Outcome.{left};
+ghost use Rattle.bitstream.specs.Escapes.{outcomeSize, ebspToRbsp, rbspToEbsp};
 ghost use Rattle.aps.specs.Reading.{outcomeAps};
 ghost use Rattle.aps.specs.Rbsp.{parseApsRbsp};
-ghost use Rattle.aps.specs.Unit.{outcomeH, parseNalHeader, parseAps, workAfter};
+ghost use Rattle.aps.specs.Unit.{parseNalHeader, parseAps, workAfter};
 ghost use Rattle.aps_c.specs.Codes.{code, given, placed, headed, writeNumbers, writeUnit, rewrite};
 ghost use Rattle.aps_c.specs.Numbers.{headerNumbers};
 
 mod numbers;
 mod set_of;
-
-fn number(e: Refusal) -> u32
-    ensures { λ r. ⌜ r ≡ numberOf e ⌝ }
-{
-    match e {
-        Refusal::UnexpectedEnd => 1,
-        Refusal::InvalidData => 2,
-        Refusal::Unsupported => 3,
-        Refusal::InputTooLong => 4,
-        Refusal::OutputTooShort => 5,
-        Refusal::EmptyPlace => 6,
-    }
-}
+mod table;
 
 // The set's numbers and the bit where reading ended.
 fn answered(reading: ApsReading, set: &mut [i64; NUMBERS], end: &mut [u64; 1]) -> u32
@@ -110,6 +100,24 @@ pub extern "C" fn aps_rbsp_end(bytes: &[u8], end: &mut [u64; 1]) -> u32
     }
 }
 
+// The same for a unit.
+#[no_mangle]
+pub extern "C" fn aps_unit_end(unit: &[u8], work: &mut [u8], end: &mut [u64; 1]) -> u32
+    ensures code { λ r. ⌜ r ≡ code (parseAps (now (unit .entry)) (length (now (work .entry)))) ⌝ }
+    ensures end { λ _. ⌜ now (end .exit) ≡ placed (parseAps (now (unit .entry)) (length (now (work .entry)))) (now (end .entry)) ⌝ }
+    ensures work { λ _. ⌜ now (work .exit) ≡ workAfter (now (unit .entry)) (now (work .entry)) ⌝ }
+{
+    let reading = parse_aps(unit, work);
+    let outcome = reading.outcome;
+    match outcome {
+        ApsOutcome::Read(q) => {
+            end[0] = q as u64;
+            0
+        }
+        ApsOutcome::Refused(e) => number(e),
+    }
+}
+
 #[no_mangle]
 pub extern "C" fn aps_parse(
     unit: &[u8],
@@ -126,7 +134,7 @@ pub extern "C" fn aps_parse(
 }
 
 // How many bytes were written.
-fn sized(size: Size, len: &mut [u64; 1]) -> u32
+pub(crate) fn sized(size: Size, len: &mut [u64; 1]) -> u32
     ensures code { λ r. ⌜ ((l : List ℕ) → r ≡ code (outcomeSize size l)) ⌝ }
     ensures len { λ _. ⌜ ((l : List ℕ) → now (len .exit) ≡ placed (outcomeSize size l) (now (len .entry))) ⌝ }
 {
@@ -183,4 +191,24 @@ pub extern "C" fn aps_rewrite(bytes: &[u8], out: &mut [u8], len: &mut [u64; 1]) 
         ApsOutcome::Read(_) => sized(write_aps(reading.set, out), len),
         ApsOutcome::Refused(e) => number(e),
     }
+}
+
+// Escapes removed, into out, and the length.
+#[no_mangle]
+pub extern "C" fn aps_ebsp_to_rbsp(src: &[u8], out: &mut [u8], len: &mut [u64; 1]) -> u32
+    ensures code { λ r. ⌜ r ≡ code (ebspToRbsp (now (src .entry)) (now (out .entry))) ⌝ }
+    ensures out { λ _. ⌜ now (out .exit) ≡ left (now (out .entry)) (ebspToRbsp (now (src .entry)) (now (out .entry))) ⌝ }
+    ensures len { λ _. ⌜ now (len .exit) ≡ placed (ebspToRbsp (now (src .entry)) (now (out .entry))) (now (len .entry)) ⌝ }
+{
+    sized(ebsp_to_rbsp(src, out), len)
+}
+
+// Escapes put in, into out, and the length.
+#[no_mangle]
+pub extern "C" fn aps_rbsp_to_ebsp(src: &[u8], out: &mut [u8], len: &mut [u64; 1]) -> u32
+    ensures code { λ r. ⌜ r ≡ code (rbspToEbsp (now (src .entry)) (now (out .entry))) ⌝ }
+    ensures out { λ _. ⌜ now (out .exit) ≡ left (now (out .entry)) (rbspToEbsp (now (src .entry)) (now (out .entry))) ⌝ }
+    ensures len { λ _. ⌜ now (len .exit) ≡ placed (rbspToEbsp (now (src .entry)) (now (out .entry))) (now (len .entry)) ⌝ }
+{
+    sized(rbsp_to_ebsp(src, out), len)
 }
