@@ -1,6 +1,7 @@
 //! What each call must answer: inside document 01's domain what the Rust answers, outside it the number of the document's table.
 
 pub mod sets;
+pub mod table;
 pub mod written;
 
 use crate::bit_reader::BitReader;

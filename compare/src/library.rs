@@ -1,6 +1,7 @@
 //! The proved libraries' calls, by the archives of target/staticlib.
 
 pub mod sets;
+pub mod table;
 
 pub mod raw {
     #[link(name = "bitstream_c", kind = "static")]

@@ -14,6 +14,7 @@ mod replay;
 mod rust_calls;
 mod sets;
 mod speed;
+mod table;
 mod tally;
 mod written;
 
@@ -28,19 +29,20 @@ fn main() -> ExitCode {
         _ => (),
     }
     if parts.is_empty() {
-        parts = ["fields", "escapes", "sets", "written", "speed"].map(String::from).to_vec();
+        parts = ["fields", "escapes", "sets", "written", "table", "speed"].map(String::from).to_vec();
     }
     let mut rows = Vec::new();
-    let mut times = Vec::new();
+    let mut times = speed::Times::default();
     for part in &parts {
         match part.as_str() {
             "fields" => rows.extend(fields::compare()),
             "escapes" => rows.extend(escapes::compare()),
             "sets" => rows.extend(sets::compare()),
             "written" => rows.extend(written::compare()),
+            "table" => rows.extend(table::compare()),
             "speed" => times = speed::measure(),
             _ => {
-                eprintln!("no part {part}: fields, escapes, sets, written, speed, boundaries, sample or replay");
+                eprintln!("no part {part}: fields, escapes, sets, written, table, speed, boundaries, sample or replay");
                 return ExitCode::from(2);
             }
         }

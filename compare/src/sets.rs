@@ -147,15 +147,18 @@ fn cut_and_long_rbsps() -> Tally {
     t
 }
 
-/// One unit into a work buffer of `room` bytes: the answer, and every byte of the buffer after it.
+/// One unit with a work buffer: the answer, and every byte of the buffer after it.
 fn unit(t: &mut Tally, lent: &mut Lent, unit: &[u8], work: &[u8]) {
-    let mut after = work.to_vec();
-    let answer = lent.parse(unit, &mut after);
-    t.same(
-        || format!("unit {unit:02X?} with {} bytes of work", work.len()),
-        (answer, after),
-        expected::sets::parse(unit, work),
-    );
+    let asked = || format!("unit {unit:02X?} with {} bytes of work", work.len());
+    let (expected, after) = expected::sets::parse(unit, work);
+    let mut ended = work.to_vec();
+    let end = (lent.unit_end(unit, &mut ended), ended);
+    let expected_end = (expected.as_ref().map(|(_, end)| *end).map_err(|&e| e), after.clone());
+    if end != expected_end {
+        t.same(asked, end, expected_end);
+    }
+    let mut read = work.to_vec();
+    t.same(asked, (lent.parse(unit, &mut read), read), (expected, after));
 }
 
 /// Work buffers just long enough, one byte less, longer and empty.

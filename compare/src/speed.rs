@@ -3,6 +3,7 @@
 mod escapes;
 mod reads;
 mod sets;
+mod table;
 mod writes;
 
 use std::time::Duration;
@@ -12,7 +13,7 @@ use escapes::{ebsp_to_rbsp, rbsp_to_ebsp};
 use reads::{se, u, ue};
 use writes::{encoded, long_codes, short_codes, write_bits, write_se, write_ue};
 
-/// One row of the table, in nanoseconds for a call.
+/// One row, in nanoseconds for a call.
 pub struct Time {
     name: String,
     inlined: f64,
@@ -20,7 +21,21 @@ pub struct Time {
     library: f64,
 }
 
-pub fn measure() -> Vec<Time> {
+/// All rows: calls that the Rust has too, and those of the table.
+#[derive(Default)]
+pub struct Times {
+    calls: Vec<Time>,
+    table: Vec<table::Row>,
+}
+
+pub fn measure() -> Times {
+    Times {
+        calls: calls(),
+        table: table::measure(),
+    }
+}
+
+fn calls() -> Vec<Time> {
     let mut random = Random::new(9);
     let mut times = Vec::new();
     for (len, size) in [(2, "2"), (7, "7"), (65_536, "65,536")] {
@@ -54,24 +69,25 @@ pub fn measure() -> Vec<Time> {
     times
 }
 
-pub fn print(times: &[Time]) {
-    if times.is_empty() {
+pub fn print(times: &Times) {
+    if times.calls.is_empty() {
         return;
     }
     println!(
         "\n{:<38}{:>13}{:>13}{:>13}{:>11}{:>11}",
         "ns for a call", "Rust inlined", "Rust called", "library", "inl./lib.", "call./lib."
     );
-    for t in times {
+    for t in &times.calls {
         let (inlined, called) = (t.inlined / t.library, t.called / t.library);
         println!(
             "{:<38}{:>13.2}{:>13.2}{:>13.2}{:>11.2}{:>11.2}",
             t.name, t.inlined, t.called, t.library, inlined, called
         );
     }
+    table::print(&times.table);
 }
 
-/// Calls made, the time that they took, and a sum over their answers on which the three ways must agree.
+/// Calls made, the time that they took, and a sum over their answers on which the ways must agree.
 type Run = (u64, Duration, u64);
 
 /// Runs are short and many, so that some are not interrupted.
@@ -79,9 +95,9 @@ const ROUNDS: usize = 60;
 const CALLS: u64 = 32_768;
 
 /// The least time for a call of each way, over rounds that take the ways in turn.
-fn time(name: String, mut ways: [&mut dyn FnMut() -> Run; 3]) -> Time {
-    let mut best = [f64::MAX; 3];
-    let mut sums = [0; 3];
+fn least<const N: usize>(name: &str, mut ways: [&mut dyn FnMut() -> Run; N]) -> [f64; N] {
+    let mut best = [f64::MAX; N];
+    let mut sums = [0; N];
     for _ in 0..ROUNDS {
         for (i, way) in ways.iter_mut().enumerate() {
             let (calls, took, sum) = way();
@@ -89,11 +105,12 @@ fn time(name: String, mut ways: [&mut dyn FnMut() -> Run; 3]) -> Time {
             sums[i] = sum;
         }
     }
-    assert!(
-        sums[0] == sums[1] && sums[1] == sums[2],
-        "{name}: the answers differ: {sums:?}"
-    );
-    let [inlined, called, library] = best;
+    assert!(sums == [sums[0]; N], "{name}: the answers differ: {sums:?}");
+    best
+}
+
+fn time(name: String, ways: [&mut dyn FnMut() -> Run; 3]) -> Time {
+    let [inlined, called, library] = least(&name, ways);
     Time {
         name,
         inlined,

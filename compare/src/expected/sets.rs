@@ -100,34 +100,37 @@ fn end(set: &VvcAps) -> usize {
     }
 }
 
-fn answer(read: Result<VvcAps, crate::BitstreamError>) -> Answer {
-    let set = read.map_err(number)?;
+fn answer(read: Result<VvcAps, u32>) -> Answer {
+    let set = read?;
     Ok((numbers(&set), end(&set)))
 }
 
 pub fn parse_rbsp(bytes: &[u8]) -> Answer {
     document::escape(bytes.len())?;
-    answer(aps::parse_aps_rbsp(bytes))
+    answer(aps::parse_aps_rbsp(bytes).map_err(number))
 }
 
-/// The answer, and the work buffer after it: from refusal 5 on it is the document's, since the Rust makes its own.
+pub fn is_aps(unit_type: u8) -> bool {
+    unit_type == NAL_TYPE_PREFIX_APS || unit_type == NAL_TYPE_SUFFIX_APS
+}
+
+/// The set of a unit. The refusals 4 and 5 and the work buffer are the document's, since the Rust makes its own buffer.
+pub fn read_unit(unit: &[u8], work: &mut [u8]) -> Result<VvcAps, u32> {
+    document::escape(unit.len())?;
+    let header = h266::parse_nal_header(unit).map_err(number)?;
+    if is_aps(header.nal_unit_type) {
+        document::room(unit.len() - 2, work.len())?;
+        let rbsp = nal::ebsp_to_rbsp(&unit[2..]);
+        work[..rbsp.len()].copy_from_slice(&rbsp);
+    }
+    aps::parse_aps(unit).map_err(number)
+}
+
+/// The answer, and the work buffer after it.
 pub fn parse(unit: &[u8], work: &[u8]) -> (Answer, Vec<u8>) {
-    let untouched = |e| (Err(e), work.to_vec());
-    if let Err(e) = document::escape(unit.len()) {
-        return untouched(e);
-    }
-    let is_aps = |t| t == NAL_TYPE_PREFIX_APS || t == NAL_TYPE_SUFFIX_APS;
-    match h266::parse_nal_header(unit) {
-        Err(e) => return untouched(number(e)),
-        Ok(header) if is_aps(header.nal_unit_type) => (),
-        Ok(_) => return (answer(aps::parse_aps(unit)), work.to_vec()),
-    }
-    if let Err(e) = document::room(unit.len() - 2, work.len()) {
-        return untouched(e);
-    }
-    let rbsp = nal::ebsp_to_rbsp(&unit[2..]);
-    let after = [&rbsp, &work[rbsp.len()..]].concat();
-    (answer(aps::parse_aps(unit)), after)
+    let mut after = work.to_vec();
+    let read = read_unit(unit, &mut after);
+    (answer(read), after)
 }
 
 pub fn nal_header(unit: &[u8]) -> Result<[u8; 5], u32> {

@@ -10,6 +10,7 @@ pub mod raw {
     extern "C" {
         pub fn aps_parse_rbsp(bytes: *const u8, len: usize, set: *mut i64, end: *mut u64) -> u32;
         pub fn aps_rbsp_end(bytes: *const u8, len: usize, end: *mut u64) -> u32;
+        pub fn aps_unit_end(unit: *const u8, len: usize, work: *mut u8, room: usize, end: *mut u64) -> u32;
         pub fn aps_parse(unit: *const u8, len: usize, work: *mut u8, room: usize, set: *mut i64, end: *mut u64) -> u32;
         pub fn aps_parse_nal_header(unit: *const u8, len: usize, header: *mut u8) -> u32;
         pub fn aps_write(set: *const i64, numbers: usize, out: *mut u8, room: usize, len: *mut u64) -> u32;
@@ -50,7 +51,7 @@ pub type Answer = Result<(Numbers, usize), u32>;
 
 /// The arrays that are lent, marked before each call; the last number stands past the array's end.
 pub struct Lent {
-    set: Vec<i64>,
+    pub(super) set: Vec<i64>,
     end: u64,
 }
 
@@ -62,7 +63,7 @@ impl Lent {
         }
     }
 
-    fn answer(&mut self, code: u32) -> Answer {
+    pub(super) fn answer(&mut self, code: u32) -> Answer {
         if code != 0 && self.end == MARK && self.set.iter().all(|&x| x == MARK as i64) {
             return Err(code);
         }
@@ -80,12 +81,13 @@ impl Lent {
 
     pub fn rbsp_end(&mut self, bytes: &[u8]) -> Result<usize, u32> {
         let code = unsafe { raw::aps_rbsp_end(bytes.as_ptr(), bytes.len(), &mut self.end) };
-        let end = std::mem::replace(&mut self.end, MARK);
-        match code {
-            0 => Ok(end as usize),
-            _ if end == MARK => Err(code),
-            _ => Err(ARRAY_CHANGED + code),
-        }
+        sized(code, std::mem::replace(&mut self.end, MARK))
+    }
+
+    pub fn unit_end(&mut self, unit: &[u8], work: &mut [u8]) -> Result<usize, u32> {
+        let (to, room) = (work.as_mut_ptr(), work.len());
+        let code = unsafe { raw::aps_unit_end(unit.as_ptr(), unit.len(), to, room, &mut self.end) };
+        sized(code, std::mem::replace(&mut self.end, MARK))
     }
 
     pub fn parse(&mut self, unit: &[u8], work: &mut [u8]) -> Answer {
@@ -112,8 +114,8 @@ pub fn nal_header(unit: &[u8]) -> Result<[u8; 5], u32> {
     }
 }
 
-/// How many bytes were written, or the refusal's number.
-fn sized(code: u32, len: u64) -> Result<usize, u32> {
+/// The one number that a call answers with, or the refusal's.
+pub(super) fn sized(code: u32, len: u64) -> Result<usize, u32> {
     match code {
         0 => Ok(len as usize),
         _ if len == MARK => Err(code),

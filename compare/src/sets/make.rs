@@ -11,6 +11,8 @@ pub enum Style {
     Typical,
     Extreme,
     Full,
+    /// No set of its kind takes more bytes.
+    Largest,
 }
 
 pub const STYLES: [Style; 4] = [Style::Sparse, Style::Typical, Style::Extreme, Style::Full];
@@ -28,6 +30,7 @@ impl Maker<'_> {
             Style::Sparse if self.random.below(8) > 0 => 0,
             Style::Typical => any.min(self.random.below(6) as u32),
             Style::Extreme => [0, 1.min(most), most.saturating_sub(1), most][self.random.below(4)],
+            Style::Largest => most,
             _ => any,
         }
     }
@@ -43,9 +46,13 @@ impl Maker<'_> {
     fn flag(&mut self) -> bool {
         match self.style {
             Style::Sparse => self.random.below(4) == 0,
-            Style::Full => true,
+            Style::Full | Style::Largest => true,
             _ => self.random.below(2) == 0,
         }
+    }
+
+    fn is_full(&self) -> bool {
+        matches!(self.style, Style::Full | Style::Largest)
     }
 
     fn signed(&mut self, most: u32) -> (u32, bool) {
@@ -62,6 +69,7 @@ impl Maker<'_> {
             Style::Sparse if self.random.below(8) > 0 => 0,
             Style::Typical => self.random.below(9) as i32 - 4,
             Style::Extreme => [-128, -127, -1, 0, 1, 126, 127][self.random.below(7)],
+            Style::Largest => -128,
             _ => self.random.below(256) as i32 - 128,
         }
     }
@@ -149,7 +157,7 @@ impl Maker<'_> {
     }
 
     fn lmcs(&mut self, chroma: bool) -> VvcLmcsData {
-        let full = matches!(self.style, Style::Full);
+        let full = self.is_full();
         let min = if full { 0 } else { self.upto(15) };
         let max = if full { 0 } else { self.upto(15 - min) };
         let prec = self.count(14);
@@ -188,7 +196,7 @@ impl Maker<'_> {
         let mut d = VvcScalingListData::default();
         for id in 0..28 {
             let coded = chroma || id % 3 == 2 || id == 27;
-            let copy = !matches!(self.style, Style::Full) && self.random.below(3) > 0;
+            let copy = !self.is_full() && self.random.below(3) > 0;
             d.copy_mode_flag[id] = !coded || copy;
             if !coded {
                 continue;

@@ -40,7 +40,7 @@ fn middle(mut sets: Vec<Vec<u8>>) -> Vec<u8> {
     sets.swap_remove(sets.len() / 2)
 }
 
-fn calls(bytes: &[u8], call: impl Fn(&[u8]) -> u64) -> Run {
+pub fn calls(bytes: &[u8], call: impl Fn(&[u8]) -> u64) -> Run {
     let count = (40_000 / (bytes.len() + 10)) as u64;
     let began = Instant::now();
     let sum = (0..count).map(|_| call(black_box(bytes))).sum();
