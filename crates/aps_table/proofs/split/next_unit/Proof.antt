@@ -1,3 +1,4 @@
+-- `next_unit`: after the zero bytes the end, a byte that may not stand there, or a unit.
 use mathlib.Core.Path.{_∙_}
 use native.Mathlib.Omega.{arith}
 use borrow.Author.Needs.{needs}
@@ -5,43 +6,34 @@ use Rattle.aps_table.proofs.SplitTurns.{next-end, next-other, next-few,
 use Rattle.aps_table.proofs.split.next_unit.Statement.{statement}
 use Rattle.aps_table.proofs.split.next_unit.Tie as tie
 
--- src/split.rt:96:9
 skip-zeros-requires : tie.Need-skip-zeros-requires
 skip-zeros-requires c κs = search needs
 
--- src/split.rt:98:9
 returns : tie.Need-returns
 returns c = record { is = next-end _ _ _ (c .before .skip-zeros .ensures) (c .if1 .taken); after = tt }
 
--- src/split.rt:100:8
 shared-slice-read-if2 : tie.Need-shared-slice-read-if2
 shared-slice-read-if2 c = search needs
 
--- src/split.rt:101:9
 returns-2 : tie.Need-returns-2
 returns-2 c =
     let k = c .before .before .before .skip-zeros .ensures in
     record { is = next-other _ _ _ k (omega (arith, k .to, c .before .before .if1 .left)) (c .if2 .taken); after = tt }
 
--- src/split.rt:103:8
 sub-if3 : tie.Need-sub-if3
 sub-if3 c = search needs
 
--- src/split.rt:104:9
 returns-3 : tie.Need-returns-3
 returns-3 c =
     let k = c .before .before .before .before .skip-zeros .ensures in
     record { is = next-few _ _ _ k (omega (arith, k .to, c .before .before .before .if1 .left)) (c .before .if2 .left) (c .if3 .taken); after = tt }
 
--- src/split.rt:106:17
 add-start : tie.Need-add-start
 add-start c = search needs
 
--- src/split.rt:107:9
 unit-end-requires : tie.Need-unit-end-requires
 unit-end-requires c κs = search needs
 
--- src/split.rt:92:1
 returns-4 : tie.Need-returns-4
 returns-4 c =
     let k = c .before .before .before .before .before .skip-zeros .ensures in

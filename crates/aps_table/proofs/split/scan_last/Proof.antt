@@ -1,3 +1,4 @@
+-- `scan_last`: each end of fewer than three bytes.
 use Prim.Native.Nat.{_-_}
 use native.Mathlib.Omega.{arith}
 use borrow.Author.Needs.{needs}
@@ -6,37 +7,29 @@ use Rattle.aps_table.proofs.SplitTurns.{on-one, at-end, last-on, last-e
 use Rattle.aps_table.proofs.split.scan_last.Statement.{statement}
 use Rattle.aps_table.proofs.split.scan_last.Tie as tie
 
--- src/split.rt:36:9
 returns : tie.Need-returns
 returns c = at-end _ _ (c .if1 .taken)
 
--- src/split.rt:38:10
 sub-if2 : tie.Need-sub-if2
 sub-if2 c = search needs
 
--- src/split.rt:38:8
 shared-slice-read-if2 : tie.Need-shared-slice-read-if2
 shared-slice-read-if2 c = search needs
 
--- src/split.rt:39:9
 returns-2 : tie.Need-returns-2
 returns-2 c =
     let l = length (c .before .before .before .args .s .now) - c .before .before .before .args .e in
     last-on _ _ l (omega arith) (omega arith) (omega arith) (c .if2 .taken)
 
--- src/split.rt:41:8
 shared-slice-read-if3 : tie.Need-shared-slice-read-if3
 shared-slice-read-if3 c = search needs
 
--- src/split.rt:42:25
 add-t9 : tie.Need-add-t9
 add-t9 c = search needs
 
--- src/split.rt:42:9
 returns-3 : tie.Need-returns-3
 returns-3 c = on-one _ _ (omega arith) (c .if3 .taken)
 
--- src/split.rt:30:1
 returns-4 : tie.Need-returns-4
 returns-4 c =
     let l = length (c .before .before .before .before .before .args .s .now) - c .before .before .before .before .before .args .e in

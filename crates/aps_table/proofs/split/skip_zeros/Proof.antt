@@ -1,3 +1,4 @@
+-- `skip_zeros`: zero bytes below i were passed, and the split goes on after them.
 use Prim.Native.Nat.{ℕ, _+_, _-_, _≤_}
 use mathlib.Core.Path.{_≡_, ap, _∙_}
 use native.Mathlib.Nat.{sub-self}
@@ -15,29 +16,23 @@ Inv-loop s from i₀ i = (from ≤ i) × (i ≤ length s) × (gap 0 (drop from s
 abbrev μ-loop : tie.MeasureT-loop
 μ-loop s from i₀ i = length s - i
 
--- src/split.rt:14:5
 loop-holds : tie.Need-loop-holds Inv-loop μ-loop
 loop-holds c = (omega arith, omega arith, rw sub-self)
 
--- src/split.rt:15:12
 shared-slice-read-if1 : tie.Need-shared-slice-read-if1 Inv-loop μ-loop
 shared-slice-read-if1 c = search needs
 
--- src/split.rt:16:13
 returns : tie.Need-returns Inv-loop μ-loop
 returns c =
     let l = c .before .before .before .loop in
     record { from = l .inv .0; to = l .inv .1; other = λ h. c .if1 .taken; skips = l .inv .2 }
 
--- src/split.rt:18:9
 add-i : tie.Need-add-i Inv-loop μ-loop
 add-i c = omega arith
 
--- src/split.rt:14:5
 loop-less : tie.Need-loop-less Inv-loop μ-loop
 loop-less c = omega arith
 
--- src/split.rt:14:5
 loop-again : tie.Need-loop-again Inv-loop μ-loop
 loop-again c =
     let s = c .before .before .before .before .args .s .now in
@@ -45,7 +40,6 @@ loop-again c =
     let n : l .i - c .before .before .before .before .args .from + 1 ≡ l .i + 1 - c .before .before .before .before .args .from = omega (arith, l .inv .0) in
     (omega arith, omega arith, l .inv .2 ∙ gap-zero s (l .i) _ (c .before .before .loop-test .taken) (c .if1 .left) ∙ ap (λ (n : ℕ). gap n (drop (l .i + 1) s)) n)
 
--- src/split.rt:9:1
 returns-2 : tie.Need-returns-2 Inv-loop μ-loop
 returns-2 c =
     let l = c .before .loop in

@@ -1,3 +1,4 @@
+-- `split_holds`: past the units so far the split holds as it does from `at` on.
 use Prim.Native.Nat.{_-_, _≤_}
 use mathlib.Core.Path.{_≡_, refl, sym, ap, _∙_}
 use native.Mathlib.Omega.{arith}
@@ -15,45 +16,36 @@ Inv-loop s at₀ at = (at ≤ length s) × (splits (split s) ≡ splits (gap 0 (
 abbrev μ-loop : tie.MeasureT-loop
 μ-loop s at₀ at = length s - at
 
--- src/split.rt:117:5
 loop-holds : tie.Need-loop-holds Inv-loop μ-loop
 loop-holds c = (omega arith, refl)
 
--- src/split.rt:118:15
 next-unit-requires : tie.Need-next-unit-requires Inv-loop μ-loop
 next-unit-requires c κs = search needs
 
--- src/split.rt:119:36
 enum-known-end : tie.Need-enum-known-end Inv-loop μ-loop
 enum-known-end c = search needs
 
--- src/split.rt:117:5
 loop-less : tie.Need-loop-less Inv-loop μ-loop
 loop-less c =
     let f = rw (c .before .end .given .1) at (c .before .before .before .next-unit .ensures) in
     omega (arith, f .after .0, f .after .1, f .after .2)
 
--- src/split.rt:117:5
 loop-again : tie.Need-loop-again Inv-loop μ-loop
 loop-again c =
     let f = rw (c .before .end .given .1) at (c .before .before .before .next-unit .ensures) in
     (f .after .2, c .before .before .before .before .loop .inv .1 ∙ splits-next f)
 
--- src/split.rt:123:17
 enum-told : tie.Need-enum-told Inv-loop μ-loop
 enum-told c = search needs
 
--- src/split.rt:123:17
 returns : tie.Need-returns Inv-loop μ-loop
 returns c =
     let f = rw (c .enum-told .given .1) at (c .before .before .next-unit .ensures) in
     sym (c .before .before .before .loop .inv .1 ∙ ap splits (f .is))
 
--- src/split.rt:126:17
 enum-told-2 : tie.Need-enum-told-2 Inv-loop μ-loop
 enum-told-2 c = search needs
 
--- src/split.rt:126:17
 returns-2 : tie.Need-returns-2 Inv-loop μ-loop
 returns-2 c =
     let f = rw (c .enum-told2 .given .1) at (c .before .before .next-unit .ensures) in

@@ -1,3 +1,4 @@
+-- `unit_end`: the unit goes on up to e.
 use Prim.Native.Nat.{_-_}
 use native.Mathlib.Omega.{arith}
 use borrow.Author.Needs.{needs}
@@ -13,35 +14,28 @@ Inv-loop s start e₀ e = InUnit s start e
 abbrev μ-loop : tie.MeasureT-loop
 μ-loop s start e₀ e = length s - e
 
--- src/split.rt:73:5
 loop-holds : tie.Need-loop-holds Inv-loop μ-loop
 loop-holds c = in-unit _ _ (c .before .pre .0)
 
--- src/split.rt:74:15
 scan-on-requires : tie.Need-scan-on-requires Inv-loop μ-loop
 scan-on-requires c κs = (c .loop .inv .to, c .before .before .pre .1)
 
--- src/split.rt:75:22
 enum-known-next : tie.Need-enum-known-next Inv-loop μ-loop
 enum-known-next c = search needs
 
--- src/split.rt:73:5
 loop-less : tie.Need-loop-less Inv-loop μ-loop
 loop-less c =
     let f = rw (c .before .next .given .1) at (c .before .before .before .scan-on .ensures) in
     omega (arith, f .0, f .1 .to)
 
--- src/split.rt:73:5
 loop-again : tie.Need-loop-again Inv-loop μ-loop
 loop-again c =
     let f = rw (c .before .next .given .1) at (c .before .before .before .scan-on .ensures) in
     goes-on _ _ _ _ (c .before .before .before .before .loop .inv) (f .1)
 
--- src/split.rt:78:23
 enum-known-end : tie.Need-enum-known-end Inv-loop μ-loop
 enum-known-end c = search needs
 
--- src/split.rt:79:17
 returns : tie.Need-returns Inv-loop μ-loop
 returns c =
     let f = rw (c .before .end .given .1) at (c .before .before .before .scan-on .ensures) in
