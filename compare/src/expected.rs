@@ -45,7 +45,7 @@ pub mod document {
 }
 
 /// The Rust's three errors by document 01's numbers.
-fn number(e: BitstreamError) -> u32 {
+pub fn number(e: BitstreamError) -> u32 {
     match e {
         BitstreamError::UnexpectedEnd(_) => 1,
         BitstreamError::InvalidData(_) => 2,
@@ -142,7 +142,7 @@ pub fn write_trailing(out: &[u8], at: usize) -> Result<(Vec<u8>, usize), u32> {
 }
 
 /// Bytes that the Rust made, put at the start of `out`.
-fn put(bytes: Vec<u8>, out: &[u8]) -> Result<(Vec<u8>, usize), u32> {
+pub fn put(bytes: Vec<u8>, out: &[u8]) -> Result<(Vec<u8>, usize), u32> {
     document::room(bytes.len(), out.len())?;
     let n = bytes.len();
     Ok(([&bytes, &out[n..]].concat(), n))

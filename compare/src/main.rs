@@ -5,6 +5,7 @@
 include!(env!("COMPARE_RUST"));
 
 mod boundaries;
+mod calls;
 mod escapes;
 mod expected;
 mod fields;
@@ -29,9 +30,10 @@ fn main() -> ExitCode {
         _ => (),
     }
     if parts.is_empty() {
-        parts = ["fields", "escapes", "sets", "written", "table", "speed"].map(String::from).to_vec();
+        parts = ["fields", "escapes", "sets", "written", "table", "calls", "speed"].map(String::from).to_vec();
     }
     let mut rows = Vec::new();
+    let mut calls = Vec::new();
     let mut times = speed::Times::default();
     for part in &parts {
         match part.as_str() {
@@ -40,16 +42,19 @@ fn main() -> ExitCode {
             "sets" => rows.extend(sets::compare()),
             "written" => rows.extend(written::compare()),
             "table" => rows.extend(table::compare()),
+            "calls" => calls = calls::compare(),
             "speed" => times = speed::measure(),
             _ => {
-                eprintln!("no part {part}: fields, escapes, sets, written, table, speed, boundaries, sample or replay");
+                eprintln!("no part {part}: fields, escapes, sets, written, table, calls, speed, boundaries, sample or replay");
                 return ExitCode::from(2);
             }
         }
     }
     tally::print(&rows);
     speed::print(&times);
-    if rows.iter().any(|row| row.differences > 0) {
+    calls::print(&calls);
+    let answers = calls.iter().map(|row| &row.answers);
+    if rows.iter().chain(answers).any(|row| row.differences > 0) {
         return ExitCode::FAILURE;
     }
     ExitCode::SUCCESS

@@ -2,8 +2,8 @@
 
 mod escapes;
 mod reads;
-mod sets;
-mod table;
+pub mod sets;
+pub mod table;
 mod writes;
 
 use std::time::Duration;
@@ -88,14 +88,14 @@ pub fn print(times: &Times) {
 }
 
 /// Calls made, the time that they took, and a sum over their answers on which the ways must agree.
-type Run = (u64, Duration, u64);
+pub type Run = (u64, Duration, u64);
 
 /// Runs are short and many, so that some are not interrupted.
 const ROUNDS: usize = 60;
 const CALLS: u64 = 32_768;
 
 /// The least time for a call of each way, over rounds that take the ways in turn.
-fn least<const N: usize>(name: &str, mut ways: [&mut dyn FnMut() -> Run; N]) -> [f64; N] {
+pub fn least<const N: usize>(name: &str, mut ways: [&mut dyn FnMut() -> Run; N]) -> [f64; N] {
     let mut best = [f64::MAX; N];
     let mut sums = [0; N];
     for _ in 0..ROUNDS {

@@ -3,15 +3,15 @@
 use std::fmt::Debug;
 
 pub struct Tally {
-    pub name: &'static str,
+    pub name: String,
     pub cases: u64,
     pub differences: u64,
 }
 
 impl Tally {
-    pub fn new(name: &'static str) -> Self {
+    pub fn new(name: impl Into<String>) -> Self {
         Tally {
-            name,
+            name: name.into(),
             cases: 0,
             differences: 0,
         }

@@ -3,10 +3,11 @@
 use std::ops::Range;
 
 use crate::expected;
-use crate::library::sets::{rewrite, write, write_nal, NUMBERS};
+use crate::library::sets::{rewrite, write, write_nal};
 use crate::random::Random;
 use crate::sets::make::{Maker, STYLES};
 use crate::tally::Tally;
+use kendwyra::sets::NUMBERS;
 
 pub fn compare() -> Vec<Tally> {
     vec![
@@ -58,7 +59,9 @@ fn rbsp_into_each_room(t: &mut Tally, set: &[i64]) {
 }
 
 fn unit_into_each_room(t: &mut Tally, set: &[i64], unit_type: u8) {
-    let due = expected::written::write_nal(set, unit_type, &[FILLER; 5_000]).0.unwrap_or(3);
+    let due = expected::written::write_nal(set, unit_type, &[FILLER; 5_000])
+        .0
+        .unwrap_or(3);
     for room in [due, due - 1, due + 7, 2, 1, 0] {
         unit(t, set, unit_type, room);
     }
@@ -116,7 +119,9 @@ fn range(i: usize) -> (i64, i64) {
 /// Any number that the place can hold, near the limits of fields and types most often.
 fn other(random: &mut Random, i: usize, old: i64) -> i64 {
     let (low, high) = range(i);
-    let near = [0, 1, 2, 3, 4, 7, 8, 14, 15, 16, 24, 25, 127, 128, 129, 255, 256, -1, -128, -129];
+    let near = [
+        0, 1, 2, 3, 4, 7, 8, 14, 15, 16, 24, 25, 127, 128, 129, 255, 256, -1, -128, -129,
+    ];
     let n = match random.below(8) {
         0 => low,
         1 => high,
@@ -255,7 +260,9 @@ fn rewritten() -> Tally {
     for round in 0..120_000 {
         let set = in_range(&mut random, round);
         let mut bytes = vec![0; 3_000];
-        let n = expected::written::write(&set, &bytes).0.expect("a set in range is written");
+        let n = expected::written::write(&set, &bytes)
+            .0
+            .expect("a set in range is written");
         bytes = expected::written::write(&set, &bytes).1;
         bytes.truncate(n);
         let mut damaged = bytes.clone();

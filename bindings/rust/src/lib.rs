@@ -29,7 +29,7 @@
 
 pub mod error;
 pub mod escapes;
-mod raw;
+pub mod raw;
 pub mod sets;
 pub mod table;
 

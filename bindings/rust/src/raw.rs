@@ -1,4 +1,10 @@
-//! The exports of libaps_c.a: a slice crosses as pointer and length, an array by reference, and the answer is 0 or a refusal's number.
+//! The exports of libaps_c.a themselves, for callers that keep their own arrays: a slice crosses as pointer and length, an array by
+//! reference, and the answer is 0 or a refusal's number.
+//!
+//! # Safety
+//!
+//! For each call: a pointer and its length are those of memory that is readable, or writable where something is written, and that overlaps
+//! nothing else that is lent; a table is one that `aps_table_new` made.
 
 use crate::sets::NUMBERS;
 use crate::TABLE_BYTES;

@@ -88,7 +88,7 @@ pub fn numbers(set: &VvcAps) -> Numbers {
 
 /// The bit where reading ended, which the Rust keeps to itself. Each field has one code, so the set written again takes the bits that were
 /// read: with extension flag 0 whole bytes, and with flag 1 all before the stop bit, the last 1 of the set written with the flag cleared.
-fn end(set: &VvcAps) -> usize {
+pub fn end(set: &VvcAps) -> usize {
     let mut plain = set.clone();
     plain.aps_extension_flag = false;
     let bytes = aps::write_aps(&plain).expect("a set that was read is written");

@@ -87,8 +87,13 @@ impl Table {
 
     /// 2; 6.
     pub fn lookup(&self, kind: u8, id: u8) -> Result<Numbers, u32> {
+        self.held(kind, id).map(sets::numbers)
+    }
+
+    /// The record that a lookup shows.
+    pub fn held(&self, kind: u8, id: u8) -> Result<&VvcAps, u32> {
         let place = place(kind, id).ok_or(2u32)?;
-        self.0[place].as_ref().map(sets::numbers).ok_or(6)
+        self.0[place].as_ref().ok_or(6)
     }
 
     /// The list at a cut. 3; 2.
@@ -114,5 +119,6 @@ impl Table {
 }
 
 fn place(kind: u8, id: u8) -> Option<usize> {
-    names().iter().position(|&name| name == (kind, id))
+    let before: u8 = IDS.get(..kind.into())?.iter().sum();
+    (id < *IDS.get(usize::from(kind))?).then_some((before + id).into())
 }

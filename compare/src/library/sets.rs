@@ -1,30 +1,10 @@
-//! The calls of the sets library, by target/staticlib/libaps_c.a.
+//! The sets library's calls, by the crate's declarations.
+
+use std::hint::black_box;
 
 use super::{ARRAY_CHANGED, MARK};
-
-/// Numbers that a set is handed over as.
-pub const NUMBERS: usize = 3122;
-
-pub mod raw {
-    #[link(name = "aps_c", kind = "static")]
-    extern "C" {
-        pub fn aps_parse_rbsp(bytes: *const u8, len: usize, set: *mut i64, end: *mut u64) -> u32;
-        pub fn aps_rbsp_end(bytes: *const u8, len: usize, end: *mut u64) -> u32;
-        pub fn aps_unit_end(unit: *const u8, len: usize, work: *mut u8, room: usize, end: *mut u64) -> u32;
-        pub fn aps_parse(unit: *const u8, len: usize, work: *mut u8, room: usize, set: *mut i64, end: *mut u64) -> u32;
-        pub fn aps_parse_nal_header(unit: *const u8, len: usize, header: *mut u8) -> u32;
-        pub fn aps_write(set: *const i64, numbers: usize, out: *mut u8, room: usize, len: *mut u64) -> u32;
-        pub fn aps_write_nal(
-            set: *const i64,
-            numbers: usize,
-            unit_type: u8,
-            out: *mut u8,
-            room: usize,
-            len: *mut u64,
-        ) -> u32;
-        pub fn aps_rewrite(bytes: *const u8, len: usize, out: *mut u8, room: usize, written: *mut u64) -> u32;
-    }
-}
+use kendwyra::raw;
+use kendwyra::sets::NUMBERS;
 
 /// A set as its numbers; shown as those that are not 0, after the index of the first in a row.
 #[derive(PartialEq)]
@@ -51,7 +31,7 @@ pub type Answer = Result<(Numbers, usize), u32>;
 
 /// The arrays that are lent, marked before each call; the last number stands past the array's end.
 pub struct Lent {
-    pub(super) set: Vec<i64>,
+    set: Vec<i64>,
     end: u64,
 }
 
@@ -61,6 +41,11 @@ impl Lent {
             set: vec![MARK as i64; NUMBERS + 1],
             end: MARK,
         }
+    }
+
+    /// The array without the number past its end.
+    pub(super) fn set(&mut self) -> &mut [i64; NUMBERS] {
+        front(&mut self.set)
     }
 
     pub(super) fn answer(&mut self, code: u32) -> Answer {
@@ -75,7 +60,8 @@ impl Lent {
     }
 
     pub fn parse_rbsp(&mut self, bytes: &[u8]) -> Answer {
-        let code = unsafe { raw::aps_parse_rbsp(bytes.as_ptr(), bytes.len(), self.set.as_mut_ptr(), &mut self.end) };
+        let (set, end) = (front(&mut self.set), &mut self.end);
+        let code = unsafe { raw::aps_parse_rbsp(bytes.as_ptr(), bytes.len(), set, end) };
         self.answer(code)
     }
 
@@ -91,27 +77,26 @@ impl Lent {
     }
 
     pub fn parse(&mut self, unit: &[u8], work: &mut [u8]) -> Answer {
-        let code = unsafe {
-            raw::aps_parse(
-                unit.as_ptr(),
-                unit.len(),
-                work.as_mut_ptr(),
-                work.len(),
-                self.set.as_mut_ptr(),
-                &mut self.end,
-            )
-        };
+        let (to, room) = (work.as_mut_ptr(), work.len());
+        let (set, end) = (front(&mut self.set), &mut self.end);
+        let code = unsafe { raw::aps_parse(unit.as_ptr(), unit.len(), to, room, set, end) };
         self.answer(code)
     }
 }
 
 pub fn nal_header(unit: &[u8]) -> Result<[u8; 5], u32> {
     let mut header = [MARK as u8; 6];
-    match unsafe { raw::aps_parse_nal_header(unit.as_ptr(), unit.len(), header.as_mut_ptr()) } {
+    match unsafe { raw::aps_parse_nal_header(unit.as_ptr(), unit.len(), front(&mut header)) } {
         0 if header[5] == MARK as u8 => Ok([header[0], header[1], header[2], header[3], header[4]]),
         code if header == [MARK as u8; 6] => Err(code),
         code => Err(ARRAY_CHANGED + code),
     }
+}
+
+/// The front of a longer array, for a call that may not reach what stands behind it; nor may the compiler take that for granted.
+pub(super) fn front<T, const N: usize>(array: &mut [T]) -> &mut [T; N] {
+    let chunk = black_box(array).first_chunk_mut();
+    chunk.expect("an array with a mark behind it")
 }
 
 /// The one number that a call answers with, or the refusal's.

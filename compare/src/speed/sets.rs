@@ -5,10 +5,10 @@ use std::time::Instant;
 
 use super::{time, Run, Time};
 use crate::h266::aps::{self, parse_aps_rbsp, write_aps};
-use crate::library::sets::raw;
 use crate::random::Random;
 use crate::rust_calls;
 use crate::sets::make::{Maker, Style};
+use kendwyra::raw;
 
 /// Small, typical and full sets of the three kinds.
 pub fn inputs() -> Vec<(String, Vec<u8>)> {
@@ -40,7 +40,7 @@ fn middle(mut sets: Vec<Vec<u8>>) -> Vec<u8> {
     sets.swap_remove(sets.len() / 2)
 }
 
-pub fn calls(bytes: &[u8], call: impl Fn(&[u8]) -> u64) -> Run {
+pub fn calls(bytes: &[u8], mut call: impl FnMut(&[u8]) -> u64) -> Run {
     let count = (40_000 / (bytes.len() + 10)) as u64;
     let began = Instant::now();
     let sum = (0..count).map(|_| call(black_box(bytes))).sum();
@@ -57,8 +57,9 @@ pub fn read(name: &str, bytes: &[u8]) -> Time {
             &mut || calls(bytes, |b| rust(b.as_ptr(), b.len()).into()),
             &mut || {
                 let mut end = 0;
-                let end: *mut u64 = &mut end;
-                calls(bytes, |b| unsafe { raw::aps_rbsp_end(b.as_ptr(), b.len(), end).into() })
+                calls(bytes, |b| unsafe {
+                    raw::aps_rbsp_end(b.as_ptr(), b.len(), &mut end).into()
+                })
             },
         ],
     )
@@ -75,14 +76,19 @@ pub fn write(name: &str, bytes: &[u8], read: &Time) -> [Time; 2] {
     let both = time(
         format!("{name}, read and written"),
         [
-            &mut || calls(bytes, |b| parse_aps_rbsp(b).and_then(|set| write_aps(&set)).map_or(0, |w| w.len() as u64)),
+            &mut || {
+                calls(bytes, |b| {
+                    parse_aps_rbsp(b)
+                        .and_then(|set| write_aps(&set))
+                        .map_or(0, |w| w.len() as u64)
+                })
+            },
             &mut || calls(bytes, |b| rust(b.as_ptr(), b.len(), to, room).into()),
             &mut || {
                 let mut len = 0;
-                let len: *mut u64 = &mut len;
                 calls(bytes, |b| unsafe {
-                    raw::aps_rewrite(b.as_ptr(), b.len(), to, room, len);
-                    *len
+                    raw::aps_rewrite(b.as_ptr(), b.len(), to, room, &mut len);
+                    len
                 })
             },
         ],

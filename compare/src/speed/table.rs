@@ -7,11 +7,11 @@ use super::sets::{calls, inputs};
 use super::{least, Run};
 use crate::expected::table::names;
 use crate::h266::aps;
-use crate::library::sets::{raw as sets, NUMBERS};
-use crate::library::table::{raw, BYTES};
 use crate::nal;
 use crate::random::Random;
 use crate::sets::make::{Maker, Style};
+use kendwyra::sets::NUMBERS;
+use kendwyra::{raw, TABLE_BYTES};
 
 /// One row, in nanoseconds for a call.
 pub struct Row {
@@ -51,9 +51,11 @@ pub fn print(rows: &[Row]) {
     }
 }
 
-fn new_table() -> Vec<u8> {
-    let mut table = vec![0; BYTES];
-    unsafe { raw::aps_table_new(table.as_mut_ptr()) };
+type Bytes = [u8; TABLE_BYTES];
+
+fn new_table() -> Bytes {
+    let mut table = [0; TABLE_BYTES];
+    unsafe { raw::aps_table_new(&mut table) };
     table
 }
 
@@ -71,19 +73,18 @@ fn unit(name: &str, rbsp: &[u8]) -> Row {
     let mut table = new_table();
     let mut work = vec![0; unit.len()];
     let mut end = 0;
-    let (table, to, room, end): (*mut u8, *mut u8, usize, *mut u64) =
-        (table.as_mut_ptr(), work.as_mut_ptr(), work.len(), &mut end);
+    let (to, room): (*mut u8, usize) = (work.as_mut_ptr(), work.len());
     let [taken, read] = least(
         &name,
         [
             &mut || {
                 calls(&unit, |u| unsafe {
-                    raw::aps_take_unit(table, u.as_ptr(), u.len(), to, room).into()
+                    raw::aps_take_unit(&mut table, u.as_ptr(), u.len(), to, room).into()
                 })
             },
             &mut || {
                 calls(&unit, |u| unsafe {
-                    sets::aps_unit_end(u.as_ptr(), u.len(), to, room, end).into()
+                    raw::aps_unit_end(u.as_ptr(), u.len(), to, room, &mut end).into()
                 })
             },
         ],
@@ -97,7 +98,7 @@ fn unit(name: &str, rbsp: &[u8]) -> Row {
 }
 
 /// As many units of type 1 as go into 65,536 bytes, each of `len` bytes after its start code.
-fn foreign(len: usize, mut body: impl FnMut(usize) -> Vec<u8>) -> Vec<u8> {
+pub fn foreign(len: usize, mut body: impl FnMut(usize) -> Vec<u8>) -> Vec<u8> {
     let mut stream = Vec::new();
     while stream.len() + 4 + len <= 65_536 {
         let mut unit = [&[0x00, 0x09][..], &body(len)].concat();
@@ -141,16 +142,7 @@ fn stream(name: &str, stream: &[u8]) -> Row {
         [&mut || {
             let bytes = black_box(stream);
             let (to, room) = (work.as_mut_ptr(), work.len());
-            once(|| unsafe {
-                raw::aps_take_stream(
-                    table.as_mut_ptr(),
-                    bytes.as_ptr(),
-                    bytes.len(),
-                    to,
-                    room,
-                    counts.as_mut_ptr(),
-                )
-            })
+            once(|| unsafe { raw::aps_take_stream(&mut table, bytes.as_ptr(), bytes.len(), to, room, &mut counts) })
         }],
     );
     assert!(counts[0] == 0 && counts[1] == 0, "{name}: {counts:?}");
@@ -185,7 +177,7 @@ fn full_table() -> Vec<Row> {
     let (to, room): (*mut u8, usize) = (out.as_mut_ptr(), out.len());
     for rbsp in &rbsps {
         let unit = [&[0x00, 0x89][..], &nal::rbsp_to_ebsp(rbsp)].concat();
-        let code = unsafe { raw::aps_take_unit(table.as_mut_ptr(), unit.as_ptr(), unit.len(), to, room) };
+        let code = unsafe { raw::aps_take_unit(&mut table, unit.as_ptr(), unit.len(), to, room) };
         assert!(code == 0, "a full set is accepted");
     }
     let mut rows = cuts(&table, &rbsps, to, room);
@@ -196,16 +188,14 @@ fn full_table() -> Vec<Row> {
 }
 
 /// The list of 20 full sets, against these read, and against these read and written.
-fn cuts(table: &[u8], rbsps: &[Vec<u8>], to: *mut u8, room: usize) -> Vec<Row> {
-    let mut n = 0;
-    let n: *mut u64 = &mut n;
+fn cuts(table: &Bytes, rbsps: &[Vec<u8>], to: *mut u8, room: usize) -> Vec<Row> {
     let each = |call: &dyn Fn(&[u8]) -> u32| once(|| rbsps.iter().map(|b| call(black_box(b))).sum());
     let [list, read, rewritten] = least(
         "a cut of 20 full sets",
         [
-            &mut || once(|| unsafe { raw::aps_write_list(black_box(table).as_ptr(), to, room, n) }),
-            &mut || each(&|b| unsafe { sets::aps_rbsp_end(b.as_ptr(), b.len(), n) }),
-            &mut || each(&|b| unsafe { sets::aps_rewrite(b.as_ptr(), b.len(), to, room, n) }),
+            &mut || once(|| unsafe { raw::aps_write_list(black_box(table), to, room, &mut 0) }),
+            &mut || each(&|b| unsafe { raw::aps_rbsp_end(b.as_ptr(), b.len(), &mut 0) }),
+            &mut || each(&|b| unsafe { raw::aps_rewrite(b.as_ptr(), b.len(), to, room, &mut 0) }),
         ],
     );
     let against = |name: &str, other| Row {
@@ -221,22 +211,20 @@ fn cuts(table: &[u8], rbsps: &[Vec<u8>], to: *mut u8, room: usize) -> Vec<Row> {
 }
 
 /// A set looked up, against its RBSP read; both hand over all numbers.
-fn lookup(table: &[u8], name: &str, (kind, id): (u8, u8), rbsp: &[u8]) -> Row {
+fn lookup(table: &Bytes, name: &str, (kind, id): (u8, u8), rbsp: &[u8]) -> Row {
     let name = format!("lookup of a full {name} set, against its RBSP read");
-    let mut set = vec![0; NUMBERS];
-    let (set, mut end): (*mut i64, u64) = (set.as_mut_ptr(), 0);
-    let end: *mut u64 = &mut end;
+    let (mut looked_up, mut parsed) = ([0; NUMBERS], [0; NUMBERS]);
     let [looked, read] = least(
         &name,
         [
             &mut || {
                 calls(rbsp, |_| unsafe {
-                    raw::aps_lookup(black_box(table).as_ptr(), kind, id, set).into()
+                    raw::aps_lookup(black_box(table), kind, id, &mut looked_up).into()
                 })
             },
             &mut || {
                 calls(rbsp, |b| unsafe {
-                    sets::aps_parse_rbsp(b.as_ptr(), b.len(), set, end).into()
+                    raw::aps_parse_rbsp(b.as_ptr(), b.len(), &mut parsed, &mut 0).into()
                 })
             },
         ],
@@ -251,10 +239,8 @@ fn lookup(table: &[u8], name: &str, (kind, id): (u8, u8), rbsp: &[u8]) -> Row {
 
 fn empty_list() -> Row {
     let table = new_table();
-    let mut n = 0;
-    let n: *mut u64 = &mut n;
     let name = "an empty table's list";
-    let write = || unsafe { raw::aps_write_list(black_box(&table).as_ptr(), std::ptr::dangling_mut(), 0, n) };
+    let write = || unsafe { raw::aps_write_list(black_box(&table), std::ptr::dangling_mut(), 0, &mut 0) };
     let [list] = least(name, [&mut || calls(&[0; 400], |_| write().into())]);
     Row {
         name: name.into(),

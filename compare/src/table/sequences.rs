@@ -4,9 +4,9 @@ use super::make::Bytes;
 use super::Both;
 use crate::expected::table::names;
 use crate::library::sets::Lent;
-use crate::library::table::BYTES;
 use crate::random::Random;
 use crate::tally::Tally;
+use kendwyra::TABLE_BYTES;
 
 const SEQUENCES: u64 = 150_000;
 
@@ -43,7 +43,7 @@ impl Sequences {
             bytes: Bytes::new(),
             lent: Lent::new(),
             filler,
-            used: vec![0xFF; BYTES],
+            used: vec![0xFF; TABLE_BYTES],
             number: 0,
             units: Tally::new("sequences: units alone"),
             streams: Tally::new("sequences: streams"),
@@ -92,8 +92,8 @@ impl Sequences {
     fn new_table(&mut self) -> Both {
         match self.random.below(4) {
             0 => Both::new(&self.used),
-            1 => Both::new(&self.filled(BYTES)),
-            _ => Both::new(&[0; BYTES]),
+            1 => Both::new(&self.filled(TABLE_BYTES)),
+            _ => Both::new(&[0; TABLE_BYTES]),
         }
     }
 
