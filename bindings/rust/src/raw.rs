@@ -4,7 +4,7 @@
 //! # Safety
 //!
 //! For each call: a pointer and its length are those of memory that is readable, or writable where something is written, and that overlaps
-//! nothing else that is lent; a table is one that `aps_table_new` made.
+//! nothing else that is lent. Any bytes are some table.
 
 use crate::sets::NUMBERS;
 use crate::TABLE_BYTES;
