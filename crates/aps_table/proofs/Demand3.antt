@@ -1,21 +1,23 @@
 -- Demand 3 holds: the places of the table follow the book, and the list read back gives the book.
-use Prim.Native.Nat.{ℕ, _≤_, _<_}
+use Prim.Native.Nat.{ℕ, _+_, _/_, _≤_}
 use mathlib.Core.Path.{_≡_, refl, sym, ap, _∙_}
 use mathlib.Core.Bool.{Bool, true, false, cond, _&&_}
 use mathlib.Core.List.{List, [], _∷_, _++_}
-use borrow.Author.Tests.{ltb-true, leb-true, lt-ltb, le-ltb}
+use borrow.Author.Tests.{ltb-true, leb-true, le-ltb}
 use lib.Dec.{leb, ltb}
-use lib.ListN.{length, drop}
+use lib.ListN.{length, take, drop}
+use lib.Seq.{length-sets}
 use Rattle.bitstream.specs.Outcome.{Outcome, value, refused, _then_}
 use Rattle.bitstream.specs.Escapes.{putBytes}
 use Rattle.aps.specs.Unit.{rbspOf}
-use Rattle.aps_table.specs.Places.{largest, named, names, newTable, Entries, held, missing, foundIn, look}
+use Rattle.aps_writer.proofs.UnitWrites.{not-copied}
+use Rattle.aps_table.specs.Places.{largest, named, names, placeAt, newTable, Entries, kindIn, idIn, held, missing, foundIn, look}
 use Rattle.aps_table.specs.Taking.{Verdict, accept, pass, refuse, verdict, put, takeUnit, takeUnits}
 use Rattle.aps_table.specs.Calls.{Call, stream, alone, Answer, counting, unitsTaken, afterUnits, tableAfter, answerTo}
 use Rattle.aps_table.specs.List.{anyExtended, listDue, writeList}
 use Rattle.aps_table.specs.Book.{noEntries, note, noteUnits, noteTaken, enter, enters, book, lastAccepted}
 use Rattle.aps_table.specs.Demand3.{runs, says, after, Alike, readBack, Cut, Demand3}
-use Rattle.aps_table.proofs.StoreLaws.{stored, put-length, new-length, new-none}
+use Rattle.aps_table.proofs.StoreLaws.{stored, new-length, new-none}
 use Rattle.aps_table.proofs.UnitLaws.{accepted-read}
 use Rattle.aps_table.proofs.BookLaws.{in-names, all-names, book-last, Agree, agree-units, agree-enters, list-agree, none-extended, one-extended}
 use Rattle.aps_table.proofs.CutLaws.{held-book, ReadBack, read-back}
@@ -27,6 +29,11 @@ put-note u room t h (accept a q) e = stored (rbspOf u) a q (accepted-read u room
 put-note u room t h pass e = λ k i n. refl
 put-note u room t h (refuse m) e = λ k i n. refl
 
+put-length : (v : Verdict) (r t : List ℕ) → length (put v r t) ≡ length t
+put-length (accept a q) r t = length-sets t (placeAt (kindIn a) (idIn a)) (take ((q + 7) / 8) r)
+put-length pass r t = refl
+put-length (refuse n) r t = refl
+
 unit-length : (room : ℕ) (u t : List ℕ) → length (takeUnit room u t) ≡ length t
 unfolding takeUnit
 unit-length room u t = put-length (verdict u room) (rbspOf u) t
@@ -35,17 +42,17 @@ unit-agree : (room : ℕ) (u t : List ℕ) → length t ≡ 30252 → Agree (hel
 unfolding takeUnit
 unit-agree room u t h = put-note u room t h (verdict u room) refl
 
-units-length : (room : ℕ) (us : List (List ℕ)) (t : List ℕ) → length (takeUnits room us t) ≡ length t
-unfolding takeUnits
-units-length room [] t = refl
-units-length room (u ∷ us) t = units-length room us (takeUnit room u t) ∙ unit-length room u t
-
 units-agree : (room : ℕ) (us : List (List ℕ)) (t : List ℕ) → length t ≡ 30252 → Agree (held (takeUnits room us t)) (noteUnits room us (held t))
 unfolding takeUnits noteUnits
 units-agree room [] t h k i n = refl
 units-agree room (u ∷ us) t h k i n =
     units-agree room us (takeUnit room u t) (unit-length room u t ∙ h) k i n
     ∙ agree-units room us (held (takeUnit room u t)) (note (verdict u room) (held t)) (unit-agree room u t h) k i n
+
+units-length : (room : ℕ) (us : List (List ℕ)) (t : List ℕ) → length (takeUnits room us t) ≡ length t
+unfolding takeUnits
+units-length room [] t = refl
+units-length room (u ∷ us) t = units-length room us (takeUnit room u t) ∙ unit-length room u t
 
 taken-length : (room : ℕ) (o : Outcome (List (List ℕ))) (t : List ℕ) → length (afterUnits room o t) ≡ length t
 taken-length room (value us n) t = units-length room us t
@@ -119,10 +126,6 @@ put-room : (l out : List ℕ) → length l ≤ length out → putBytes out l ≡
 unfolding putBytes
 put-room l out h = rw (le-ltb (length out) (length l) h)
 
-put-short : (l out : List ℕ) → length out < length l → putBytes out l ≡ refused 5
-unfolding putBytes
-put-short l out h = rw (lt-ltb (length out) (length l) h)
-
 module _ (cs : List Call) (l : List ℕ) (R : ReadBack (book cs) l) where
   written : (out : List ℕ) → writeList (after cs) out ≡ putBytes out l
   unfolding writeList
@@ -140,7 +143,7 @@ module _ (cs : List Call) (l : List ℕ) (R : ReadBack (book cs) l) where
     is-the-list = R .due;
     short = R .short;
     room = λ out h. written out ∙ put-room l out h;
-    no-room = λ out h. written out ∙ put-short l out h;
+    no-room = λ out h. written out ∙ sym (not-copied out l h .0);
     no-work = λ n h. (ap (counting n) (R .no-work n h), ap (λ (o : Outcome (List (List ℕ))). afterUnits n o newTable) (R .no-work n h));
     looks = λ n h k i. look-agree (held (readBack l n)) (lastAccepted cs) (λ k i m. back-agree n h k i m ∙ book-last cs k i) k i;
     alike = λ n h. agree-alike (after cs) (readBack l n) (both-agree n h);

@@ -60,8 +60,8 @@ module _ (table bytes : List ℕ) (base i : ℕ) where
       rw (a, b, drop-cons bytes i 0)
 
   -- the loop has put them all
-  pub stored : length bytes ≤ i → sets table (base + i) (drop i bytes) ≡ table
-  stored h = rw (drop-of-length-le bytes h)
+  pub stored-all : length bytes ≤ i → sets table (base + i) (drop i bytes) ≡ table
+  stored-all h = rw (drop-of-length-le bytes h)
 
 -- ---- bytes read from it
 

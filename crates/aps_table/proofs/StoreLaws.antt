@@ -9,7 +9,7 @@ use native.Mathlib.Omega.{arith}
 use borrow.Author.Tests.{eqb-true, eq-eqb, leb-true, leb-false}
 use lib.Dec.{eqb, leb}
 use lib.ListN.{length, getD, set, take, drop, replicate, length-take, List·getD-eq-default, length-replicate}
-use lib.Seq.{sets, sets-eq, length-sets, take-set-le, drop-set-lt, drop-set-add, drop-at, take-at, length-take-le, getD-take, getD-drop}
+use lib.Seq.{sets, sets-eq, take-set-le, drop-set-lt, drop-set-add, drop-at, take-at, length-take-le, getD-take, getD-drop}
 use Rattle.bitstream.specs.Outcome.{Outcome, value, refused}
 use Rattle.aps.specs.ApsSyntax.{numberOf}
 use Rattle.aps.specs.Rbsp.{readRbsp}
@@ -19,7 +19,6 @@ use Rattle.aps.proofs.ApsLaws.{largestId}
 use Rattle.aps.proofs.RbspLaws.{mostBytes, rbsp-id, rbsp-end, read-most}
 use Rattle.aps.proofs.LocalLaws.{zeros-none, rbsp-copy}
 use Rattle.aps_table.specs.Places.{Names, placeSize, placeAt, placeBytes, newTable, kindIn, idIn, under, held}
-use Rattle.aps_table.specs.Taking.{Verdict, accept, pass, refuse, put}
 use Rattle.aps_table.specs.Book.{replace}
 use Rattle.aps_table.proofs.PlaceSteps.{place-within}
 
@@ -164,12 +163,6 @@ module _ (r : List ℕ) (a : VvcAps) (q : ℕ) (e : readRbsp r ≡ value a q) wh
       go true true x y = rw (eqb-true l (kindIn a) x, eqb-true j (idIn a) y) (stored-own t h)
       go true false x y = stored-other t l j m (λ s. false≢true (sym y ∙ eq-eqb j (idIn a) (sym (s .1))))
       go false c x y = stored-other t l j m (λ s. false≢true (sym x ∙ eq-eqb l (kindIn a) (sym (s .0))))
-
--- the table keeps its length
-pub put-length : (v : Verdict) (r t : List ℕ) → length (put v r t) ≡ length t
-put-length (accept a q) r t = length-sets t (placeAt (kindIn a) (idIn a)) (take ((q + 7) / 8) r)
-put-length pass r t = refl
-put-length (refuse n) r t = refl
 
 -- ---- the new table
 

@@ -6,7 +6,7 @@ use native.Mathlib.Nat.{add-zero}
 use denote.Ref.{now}
 use lib.ListN.{length, drop}
 use lib.Seq.{sets}
-use Rattle.aps_table.proofs.PlaceSteps.{stored-more, stored}
+use Rattle.aps_table.proofs.PlaceSteps.{stored-more, stored-all}
 use Rattle.aps_table.proofs.places.store.Statement.{statement}
 use Rattle.aps_table.proofs.places.store.Tie as tie
 
@@ -44,7 +44,7 @@ returns : tie.Need-returns Inv-loop μ-loop
 returns c =
     let l = c .before in
     let b = l .before in
-    sym (stored (l .loop .table) (now (b .args .bytes)) (b .args .at) (l .loop .i) (omega arith)) ∙ l .loop .inv .1
+    sym (stored-all (l .loop .table) (now (b .args .bytes)) (b .args .at) (l .loop .i) (omega arith)) ∙ l .loop .inv .1
 
 pub store-spec : {M : Type 1} → statement M
 store-spec =
