@@ -14,8 +14,7 @@ use Rattle.aps.specs.Codec.{Codec, u, _▷_, via, when, eachFrom, each}
 use Rattle.aps.specs.Elements.{noNumber, noSigned, firsts, seconds, zipped, apart, joined, rowsOf, flat}
 use Rattle.aps.specs.AlfSyntax.{coefficient, alternative, alternatives, chromaArrays, toChroma}
 use Rattle.aps.specs.declared.alf.VvcAlfChroma.{VvcAlfChroma}
-use Rattle.aps.specs.Reading.{outcomeStop}
-use Rattle.aps.specs.Stops.{after}
+use Rattle.aps.specs.Inner.{outcomeStop, after}
 use Rattle.aps.specs.declared.fields.Stop.{Stop}
 use Rattle.aps.specs.declared.fields.Stop.the-variants as Stop
 use Rattle.aps.proofs.EachLaws.{each-same}

@@ -7,7 +7,7 @@ use Rattle.bitstream.specs.Outcome.{Outcome, value, refused, mapOutcome}
 use Rattle.bitstream.specs.Fields.{readUe, readSe, seValue}
 use Rattle.bitstream.proofs.CodeLaws.{ue-end}
 use native.Mathlib.Omega.{arith}
-use Rattle.aps.specs.Reading.{EndsBy, outcomeStop}
+use Rattle.aps.specs.Inner.{EndsBy, outcomeStop}
 use Rattle.aps.specs.declared.fields.Stop.{Stop}
 use Rattle.aps.specs.declared.fields.Stop.the-variants as Stop
 

@@ -28,3 +28,17 @@ pub mod ScalingKeep
 pub mod ScalingSteps
 pub mod RbspSteps
 pub mod UnitSteps
+pub mod WriteSteps
+pub mod SentWrites
+pub mod PutLaws
+pub mod ArrayWrites
+pub mod AlfFilters
+pub mod AlfWrites
+pub mod LmcsWrites
+pub mod IntegerLaws
+pub mod ScalingWrites
+pub mod RbspWrites
+pub mod UnitWrites
+pub mod RoundTrips
+pub mod InferredLaws
+pub mod Marked

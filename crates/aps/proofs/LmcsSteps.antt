@@ -11,7 +11,8 @@ use Rattle.bitstream.specs.Fields.{readUe}
 use Rattle.aps.proofs.Steps.{when-read, signed-u-lt}
 use Rattle.aps.specs.Codec.{Codec, u, ue, _▷_, via, judged, when}
 use Rattle.aps.specs.Elements.{noSigned, signed}
-use Rattle.aps.specs.LmcsSyntax.{LmcsHead, inRange, codedFrom, lmcsHead, lmcsCodewords, lmcsChroma, lmcsRest, lmcs, lmcsSyntax, toLmcs}
+use Rattle.aps.specs.Inner.{lmcsRest}
+use Rattle.aps.specs.LmcsSyntax.{LmcsHead, inRange, codedFrom, lmcsHead, lmcsCodewords, lmcsChroma, lmcs, lmcsSyntax, toLmcs}
 
 -- ---- the head
 

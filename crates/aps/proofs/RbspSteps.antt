@@ -17,7 +17,8 @@ use Rattle.aps.specs.AlfSyntax.{alf}
 use Rattle.aps.specs.LmcsSyntax.{lmcs}
 use Rattle.aps.specs.ScalingSyntax.{Entry, scalingSyntax, keep}
 use Rattle.aps.specs.ApsSyntax.{zeroAlf, zeroLmcs, zeroScaling, Payload, ofAlf, ofLmcs, ofScaling, payload, apsSyntax, toAps, aps}
-use Rattle.aps.specs.Rbsp.{closed, readRbsp, parseApsRbsp, Headed}
+use Rattle.aps.specs.Inner.{Headed}
+use Rattle.aps.specs.Rbsp.{closed, readRbsp, parseApsRbsp}
 use Rattle.aps.specs.declared.alf.VvcAlfData.{VvcAlfData}
 use Rattle.aps.specs.declared.lmcs.VvcLmcsData.{VvcLmcsData}
 use Rattle.aps.specs.declared.scaling_list.VvcScalingListData.{VvcScalingListData}

@@ -11,7 +11,8 @@ use lib.ListN.{length, getD, take, drop, set, replicate}
 use lib.Seq.{sets, drop-cons, drop-set-lt, drop-set-add}
 use Rattle.bitstream.specs.Outcome.{Outcome, value, refused, mapOutcome}
 use Rattle.aps.specs.Elements.{joined}
-use Rattle.aps.specs.ScalingSyntax.{Entry, idAt, scalingSyntax, filled, keep, stored}
+use Rattle.aps.specs.Inner.{stored}
+use Rattle.aps.specs.ScalingSyntax.{Entry, idAt, scalingSyntax, filled, keep}
 use Rattle.aps.specs.declared.scaling_list.VvcScalingListData.{VvcScalingListData}
 use Rattle.aps.proofs.Steps.{Reading, reading-start, reading-more, reading-refused, reading-done}
 use Rattle.aps.proofs.Gives.{given}

@@ -13,7 +13,7 @@ use lib.Count.{leadingZeros}
 use Rattle.bitstream.specs.Fields.{ueZeros, ueBits, seCode}
 use Rattle.aps.specs.Codec.{ue, via, judged}
 use Rattle.aps.specs.Elements.{se, seIn}
-use Rattle.aps.specs.ScalingSyntax.{diagScan, diagNext, skipped, entries, maxIdDelta, idCoded, eqZ, just, cons, uncons, someLeft, step, sums, coefficients, noEntries, entrySyntax, copied, noEntry, scalingSyntax}
+use Rattle.aps.specs.ScalingSyntax.{diagScan, diagNext, skipped, matrixSize, entries, maxIdDelta, idCoded, eqZ, just, cons, uncons, someLeft, step, sums, coefficients, noEntries, entrySyntax, copied, noEntry, scalingSyntax}
 use Rattle.aps.proofs.Lawful.{Lawful, IsInferred, total}
 use Rattle.aps.proofs.CodecLaws.{and-left, and-right, ▷-law, judged-law, when-law, when-bits, via-law, bound-law, never-true}
 use Rattle.aps.proofs.EachLaws.{each-law}
@@ -21,10 +21,10 @@ use Rattle.aps.proofs.ElementLaws.{ue-most, flag-law, ueTo-law, se-law,
 
 -- a matrix has at most 64 entries
 pub entries-le : (id : ℕ) → entries id ≤ 64
-unfolding entries
+unfolding entries matrixSize
 entries-le id = go (ltb id 2) (ltb id 8)
   where
-    go : (a b : Bool) → cond a 4 (cond b 16 64) ≤ 64
+    go : (a b : Bool) → cond a 2 (cond b 4 8) * cond a 2 (cond b 4 8) ≤ 64
     go true b = omega arith
     go false true = omega arith
     go false false = omega arith
@@ -129,5 +129,5 @@ maxIdDelta-le id = go (ltb id 2) (ltb id 8)
 
 -- scaling_list_data( ) is lawful, with at most 23,432 bits
 pub scalingSyntax-law : (chroma : Bool) → Lawful (scalingSyntax chroma) 23432
-unfolding scalingSyntax maxIdDelta entries ueZeros leadingZeros skipped diagScan diagNext
+unfolding scalingSyntax maxIdDelta entries matrixSize ueZeros leadingZeros skipped diagScan diagNext
 scalingSyntax-law chroma = each-law 0 28 {m = entryBits} λ id b. when-law (idCoded chroma id) noEntry-is λ s. entry-law id (omega (arith, maxIdDelta-le id))

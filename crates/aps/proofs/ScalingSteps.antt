@@ -16,8 +16,8 @@ use Rattle.bitstream.specs.Outcome.{Outcome, value, refused, mapOutcome, _then_
 use Rattle.bitstream.specs.Fields.{readUe, readSe, seValue}
 use Rattle.aps.specs.Codec.{Codec, ue, _▷_, via, judged, when, eachFrom}
 use Rattle.aps.specs.Elements.{flag, se, seIn, noFlag, noPair}
-use Rattle.aps.specs.ScalingSyntax.{skipped, entries, idCoded, just, step, stepAt, sums, cons, Entry, coefficients, dcAt, deltaAt, noEntries, noEntry, entrySyntax, idAt, storedList, stored}
-use Rattle.aps.specs.Reading.{outcomeStop}
+use Rattle.aps.specs.Inner.{storedList, stored, outcomeStop}
+use Rattle.aps.specs.ScalingSyntax.{skipped, entries, idCoded, just, step, stepAt, sums, cons, Entry, coefficients, dcAt, deltaAt, noEntries, noEntry, entrySyntax, idAt}
 use Rattle.aps.specs.declared.fields.Stop.{Stop}
 use Rattle.aps.specs.declared.fields.Stop.the-variants as Stop
 use Rattle.aps.proofs.Gives.{Gives, given, gives-then, gives-▷, gives-when}

@@ -6,8 +6,7 @@ use native.Mathlib.Omega.{arith}
 use Rattle.bitstream.specs.Outcome.{Outcome, value, refused, number, mapOutcome, _then_}
 use Rattle.bitstream.proofs.CodeLaws.{value-refused}
 use Rattle.aps.specs.Codec.{Codec, _▷_}
-use Rattle.aps.specs.Reading.{EndsBy, outcomeStop}
-use Rattle.aps.specs.Stops.{after, StopsBy, Spans}
+use Rattle.aps.specs.Inner.{EndsBy, outcomeStop, after, StopsBy, Spans}
 use Rattle.aps.specs.declared.fields.Stop.{Stop}
 use Rattle.aps.specs.declared.fields.Stop.the-variants as Stop
 

@@ -13,14 +13,14 @@ use Rattle.bitstream.specs.Escapes.{putBytes, ebspToRbsp}
 use Rattle.bitstream.proofs.CodeLaws.{value-refused}
 use Rattle.bitstream.proofs.EscapeLaws.{unescape-most}
 use Rattle.aps.specs.Rbsp.{readRbsp, parseApsRbsp}
-use Rattle.aps.specs.Unit.{isAps, rbspOf, judgedUnit, parseAps, workAfter}
+use Rattle.aps.specs.Unit.{isAps, rbspOf, admitted, parseAps, workAfter}
 use Rattle.aps.proofs.RbspSteps.{in-limits}
 
 -- the bytes after the header
 after-header : (u : List ℕ) → take (length u - 2) (drop 2 u) ≡ drop 2 u
 after-header u = take-all (length u - 2) (drop 2 u) (omega (arith, length-drop 2 u))
 
--- what the escapes of a judged unit leave out is put into the work buffer
+-- what the escapes of an admitted unit leave out is put into the work buffer
 pub rbsp-put : (u w : List ℕ) → length u ≤ 65536 → length u - 2 ≤ length w
     → ebspToRbsp (take (length u - 2) (drop 2 u)) w ≡ value (rbspOf u ++ drop (length (rbspOf u)) w) (length (rbspOf u))
 unfolding ebspToRbsp putBytes
@@ -46,9 +46,9 @@ rbsp-read u w v n h e =
     sym (ap parseApsRbsp t ∙ in-limits (rbspOf u) m)
 
 -- a unit that passes its header: its lengths
-pub judged-lengths : (u : List ℕ) (room : ℕ) → judgedUnit u room ≡ value tt 16 → (2 ≤ length u) × (length u ≤ 65536) × (length u - 2 ≤ room)
-unfolding judgedUnit
-judged-lengths u room = go (ltb 65536 (length u)) (ltb (length u) 2) (isAps (getD u 1 0 / 8)) (ltb room (length u - 2)) refl refl refl
+pub admitted-lengths : (u : List ℕ) (room : ℕ) → admitted u room ≡ value tt 16 → (2 ≤ length u) × (length u ≤ 65536) × (length u - 2 ≤ room)
+unfolding admitted
+admitted-lengths u room = go (ltb 65536 (length u)) (ltb (length u) 2) (isAps (getD u 1 0 / 8)) (ltb room (length u - 2)) refl refl refl
   where
     go : (a b k d : Bool) → ltb 65536 (length u) ≡ a → ltb (length u) 2 ≡ b → ltb room (length u - 2) ≡ d
         → cond a (refused 4) (cond b (refused 1) (cond k (cond d (refused 5) (value tt 16)) (refused 2))) ≡ value (tt {0}) 16
@@ -60,12 +60,12 @@ judged-lengths u room = go (ltb 65536 (length u)) (ltb (length u) 2) (isAps (get
     go false false true false ea eb ed e = (ltb-false _ _ eb, ltb-false _ _ ea, ltb-false _ _ ed)
 
 -- a unit that passes its header
-pub unit-read : (u w : List ℕ) → judgedUnit u (length w) ≡ value tt 16
+pub unit-read : (u w : List ℕ) → admitted u (length w) ≡ value tt 16
     → (parseAps u (length w) ≡ readRbsp (rbspOf u)) × (workAfter u w ≡ rbspOf u ++ drop (length (rbspOf u)) w)
 unfolding parseAps workAfter
 unit-read u w e = (rw e, rw e)
 
 -- and one that does not
-pub unit-refused : (u w : List ℕ) (n : ℕ) → judgedUnit u (length w) ≡ refused n → (parseAps u (length w) ≡ refused n) × (workAfter u w ≡ w)
+pub unit-refused : (u w : List ℕ) (n : ℕ) → admitted u (length w) ≡ refused n → (parseAps u (length w) ≡ refused n) × (workAfter u w ≡ w)
 unfolding parseAps workAfter
 unit-refused u w n e = (rw e, rw e)

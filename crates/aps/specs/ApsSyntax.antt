@@ -5,6 +5,7 @@ use Prim.Native.Nat.{ℕ, zero, suc}
 use lib.Dec.{leb}
 use lib.IntN.{ℤ, pos}
 use lib.ListN.{replicate}
+use Rattle.aps.specs.Kinds.{largestId}
 use Rattle.aps.specs.Codec.{Codec, u, _▷_, via, judged, provided, never}
 use Rattle.aps.specs.Elements.{flag}
 use Rattle.aps.specs.AlfSyntax.{alf, toLuma, noLuma, toChroma, noChroma, toCc, noCc}
@@ -99,9 +100,9 @@ isScaling (ofScaling d) = true
 
 -- by kind. An LMCS id is judged before the payload, the others' after it; kinds 3 to 7 are refused with 3
 unfoldable pub payload : ℕ → ℕ → Bool → Codec Payload
-payload zero id chroma = judged (λ p. leb id 7) (via ofAlf alfIn isAlf (alf chroma))
-payload (suc zero) id chroma = provided (leb id 3) (via ofLmcs lmcsIn isLmcs (lmcs chroma))
-payload (suc (suc zero)) id chroma = judged (λ p. leb id 7) (via ofScaling entriesIn isScaling (scalingSyntax chroma))
+payload zero id chroma = judged (λ p. leb id (largestId 0)) (via ofAlf alfIn isAlf (alf chroma))
+payload (suc zero) id chroma = provided (leb id (largestId 1)) (via ofLmcs lmcsIn isLmcs (lmcs chroma))
+payload (suc (suc zero)) id chroma = judged (λ p. leb id (largestId 2)) (via ofScaling entriesIn isScaling (scalingSyntax chroma))
 payload (suc (suc (suc kind))) id chroma = never 3
 
 abbrev pub ApsData : Type 0

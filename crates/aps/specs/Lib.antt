@@ -1,3 +1,4 @@
+pub mod Kinds
 pub mod Codec
 pub mod Elements
 pub mod AlfSyntax
@@ -7,4 +8,5 @@ pub mod ApsSyntax
 pub mod Rbsp
 pub mod Unit
 pub mod Reading
-pub mod Stops
+pub mod Writing
+pub mod Inner

@@ -3,7 +3,6 @@ use mathlib.Core.Bool.{Bool, true, false, cond, not, _&&_}
 use mathlib.Core.List.{List}
 use Prim.Native.Nat.{ℕ, _+_, _-_}
 use lib.Dec.{leb, eqb}
-use Rattle.bitstream.specs.Outcome.{Outcome, value, _then_}
 use Rattle.aps.specs.Codec.{Codec, u, ue, _▷_, via, judged, when, each}
 use Rattle.aps.specs.Elements.{signed, noSigned, apart}
 use Rattle.aps.specs.declared.lmcs.VvcLmcsData.{VvcLmcsData}
@@ -64,7 +63,3 @@ fromLmcs d = (
 
 unfoldable pub lmcs : Bool → Codec VvcLmcsData
 lmcs chroma = via toLmcs fromLmcs (λ d. true) (lmcsSyntax chroma)
-
--- what is read after the head
-unfoldable pub lmcsRest : Bool → LmcsHead → List ℕ → ℕ → Outcome VvcLmcsData
-lmcsRest chroma h s p = (lmcsCodewords h) .read s p then λ cw q. (lmcsChroma chroma) .read s q then λ crs r. value (toLmcs (h, (cw, crs))) r

@@ -1,12 +1,11 @@
 -- The RBSP of a set, read and written: the set, then with extension flag 0 the stop bit and zeros to the byte's end.
-use mathlib.Core.Path.{_≡_}
-use mathlib.Core.Bool.{Bool, cond, not}
+use mathlib.Core.Bool.{cond}
 use mathlib.Core.List.{List, _++_}
 use Prim.Native.Nat.{ℕ}
-use lib.Dec.{ltb, eqb}
+use lib.Dec.{ltb}
 use lib.ListN.{length}
 use Rattle.bitstream.specs.Outcome.{Outcome, value, refused, _then_}
-use Rattle.bitstream.specs.Bits.{fieldAt, pack}
+use Rattle.bitstream.specs.Bits.{pack}
 use Rattle.bitstream.specs.Fields.{readTrailing, trailingBits}
 use Rattle.aps.specs.ApsSyntax.{aps}
 use Rattle.aps.specs.declared.aps.VvcAps.{VvcAps}
@@ -29,9 +28,3 @@ rbspBits a = aps .emit a ++ trailingBits (length (aps .emit a))
 -- the bytes of a set that the writer takes
 unfoldable pub rbspBytes : VvcAps → List ℕ
 rbspBytes a = pack (rbspBits a)
-
--- what stands before the payload: kind, id and chroma flag
-pub record Headed (s : List ℕ) (kind id : ℕ) (chroma : Bool) : Type 0 where
-  pub kind-is : fieldAt s 0 3 ≡ kind
-  pub id-is : fieldAt s 3 5 ≡ id
-  pub chroma-is : not (eqb (fieldAt s 8 1) 0) ≡ chroma

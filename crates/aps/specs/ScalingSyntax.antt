@@ -5,7 +5,6 @@ use Prim.Native.Nat.{ℕ, zero, suc, _+_, _*_, _-_, _%_, min}
 use lib.Dec.{leb, ltb, eqb}
 use lib.IntN.{ℤ, pos, negsuc, _+ℤ_, _-ℤ_}
 use lib.ListN.{length, getD, take, drop, replicate}
-use lib.Seq.{sets}
 use Rattle.aps.specs.Codec.{Codec, u, ue, _▷_, via, judged, Inferred, when, each}
 use Rattle.aps.specs.Elements.{flag, ueTo, seIn, noFlag, noNumber, noPair, joined}
 use Rattle.aps.specs.declared.scaling_list.VvcScalingListData.{VvcScalingListData}
@@ -24,9 +23,12 @@ diagScan (suc i) = diagNext (diagScan i)
 unfoldable pub skipped : ℕ → ℕ → Bool
 skipped id i = ltb 25 id && (leb 4 (diagScan i .0) && leb 4 (diagScan i .1))
 
--- matrixSize * matrixSize
+unfoldable pub matrixSize : ℕ → ℕ
+matrixSize id = cond (ltb id 2) 2 (cond (ltb id 8) 4 8)
+
+-- the entries of a matrix
 unfoldable pub entries : ℕ → ℕ
-entries id = cond (ltb id 2) 4 (cond (ltb id 8) 16 64)
+entries id = matrixSize id * matrixSize id
 
 unfoldable pub maxIdDelta : ℕ → ℕ
 maxIdDelta id = cond (ltb id 2) id (cond (ltb id 8) (id - 2) (id - 8))
@@ -75,12 +77,16 @@ sums id i (suc n) prev =
 abbrev pub Entry : Type 0
 Entry = Bool × (Bool × (ℕ × (ℤ × List ℤ)))
 
--- the DC, and the delta where an id is copied or predicted
+-- the DC of an id above 13
 abbrev pub dcAt : ℕ → Codec ℤ
 dcAt id = when (ltb 13 id) (just (pos 0)) (seIn (negsuc 127) (pos 127))
 
+-- the delta is sent for an id that is copied or predicted, but for the first of each size
+abbrev pub deltaSent : ℕ → Bool → Bool
+deltaSent id used = used && not (eqb id 0 || eqb id 2 || eqb id 8)
+
 abbrev pub deltaAt : ℕ → Bool → Codec ℕ
-deltaAt id used = when (used && not (eqb id 0 || eqb id 2 || eqb id 8)) noNumber (ueTo (maxIdDelta id))
+deltaAt id used = when (deltaSent id used) noNumber (ueTo (maxIdDelta id))
 
 unfoldable pub coefficients : ℕ → Codec (ℤ × List ℤ)
 coefficients id =
@@ -123,13 +129,6 @@ keep es =
       «dc_coef» = drop 14 (map (λ e. e .1 .1 .1 .0) es);
       «scaling_list» = joined (map (λ e. filled (e .1 .1 .1 .1)) es);
     }
-
--- the list of an id stored at 64 * id of the flat array l
-abbrev pub storedList : List ℤ → ℕ → ℤ × List ℤ → ℤ × List ℤ
-storedList l id x = (x .0, sets l (64 * id) (x .1))
-
-abbrev pub stored : List ℤ → ℕ → Entry → Entry
-stored l id e = (e .0, (e .1 .0, (e .1 .1 .0, storedList l id (e .1 .1 .1))))
 
 -- What the writer looks at: of an uncoded id nothing; of a copy not the DC and the list; of a list not what is past the matrix.
 unfoldable pub looked : Bool → ℕ → Bool → Bool → ℕ → ℤ → List ℤ → Entry

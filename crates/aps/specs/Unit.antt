@@ -8,8 +8,6 @@ use Rattle.bitstream.specs.Outcome.{Outcome, value, refused, number, _then_}
 use Rattle.bitstream.specs.Escapes.{unescape}
 use Rattle.aps.specs.Rbsp.{readRbsp}
 use Rattle.aps.specs.declared.aps.VvcAps.{VvcAps}
-use Rattle.aps.specs.declared.unit.UnitJudged.{UnitJudged}
-use Rattle.aps.specs.declared.unit.UnitJudged.the-variants as Judged
 use Rattle.aps.specs.declared.nal_header.VvcNalHeader.{VvcNalHeader}
 use Rattle.aps.specs.declared.nal_header.HeaderRead.{HeaderRead}
 use Rattle.aps.specs.declared.nal_header.HeaderRead.the-variants.{Header, Refused}
@@ -42,21 +40,17 @@ abbrev pub rbspOf : List ℕ → List ℕ
 rbspOf u = unescape (drop 2 u)
 
 -- 4; 1 and 2 of the header; 5: the work buffer is shorter than the unit less 2
-unfoldable pub judgedUnit : List ℕ → ℕ → Outcome (Unit {0})
-judgedUnit u room =
+unfoldable pub admitted : List ℕ → ℕ → Outcome (Unit {0})
+admitted u room =
     cond (ltb 65536 (length u)) (refused 4)
     (cond (ltb (length u) 2) (refused 1)
     (cond (isAps (getD u 1 0 / 8))
     (cond (ltb room (length u - 2)) (refused 5) (value tt 16))
     (refused 2)))
 
-abbrev pub outcomeJ : UnitJudged → Outcome (Unit {0})
-outcomeJ Judged.Aps = value tt 16
-outcomeJ (Judged.Refused e) = refused (number e)
-
 -- `parse_aps`: then the RBSP
 unfoldable pub parseAps : List ℕ → ℕ → Outcome VvcAps
-parseAps u room = judgedUnit u room then λ e p. readRbsp (rbspOf u)
+parseAps u room = admitted u room then λ e p. readRbsp (rbspOf u)
 
 -- what is left in the work buffer: the RBSP and then what stood there; all as it was where the unit got no further than its header
 abbrev pub workOf : Outcome (Unit {0}) → List ℕ → List ℕ → List ℕ
@@ -64,4 +58,4 @@ workOf (value e p) u work = rbspOf u ++ drop (length (rbspOf u)) work
 workOf (refused n) u work = work
 
 unfoldable pub workAfter : List ℕ → List ℕ → List ℕ
-workAfter u work = workOf (judgedUnit u (length work)) u work
+workAfter u work = workOf (admitted u (length work)) u work

@@ -13,8 +13,7 @@ ghost use Rattle.aps.specs.AlfSyntax.{luma, toLuma, noLuma};
 ghost use Rattle.aps.specs.AlfSyntax.{chroma, alternatives, toChroma, noChroma, cc, toCc, noCc};
 ghost use Rattle.aps.specs.AlfSyntax.{alf, alfFilters, toAlf};
 ghost use Rattle.aps.specs.ApsSyntax.{zeroAlf};
-ghost use Rattle.aps.specs.Reading.{EndsBy, outcomeStop};
-ghost use Rattle.aps.specs.Stops.{after, StopsBy, Spans};
+ghost use Rattle.aps.specs.Inner.{EndsBy, outcomeStop, after, StopsBy, Spans};
 
 // Luma filters: row r of the flat arrays is at 12 * r.
 pub struct VvcAlfLuma {
@@ -218,7 +217,7 @@ fn read_alf_filters(bytes: &[u8], p: usize, luma: bool, chroma: bool, cb: bool, 
 }
 
 // alf_data().
-pub(crate) fn read_alf(bytes: &[u8], p: usize, chroma: bool) -> AlfRead
+pub(crate) fn parse_alf_data(bytes: &[u8], p: usize, chroma: bool) -> AlfRead
     requires { ⌜ (length (now bytes) ≤ 65536) × (p ≤ 100) ⌝ }
     ensures { λ r. ⌜ (outcomeStop (r .stop) (r .alf) ≡ (alf chroma) .read (now (bytes .entry)) p) × EndsBy (outcomeStop (r .stop) (r .alf)) (p + 30000) ⌝ }
 {

@@ -22,8 +22,7 @@ ghost use lib.Seq.{sets};
 ghost use Rattle.bitstream.specs.Outcome.{mapOutcome};
 ghost use Rattle.aps.specs.Elements.{zipped};
 ghost use Rattle.aps.specs.AlfSyntax.{chroma, alternative, alternatives, chromaArrays, cc, ccCoefficients};
-ghost use Rattle.aps.specs.Reading.{EndsBy, outcomeStop};
-ghost use Rattle.aps.specs.Stops.{after, StopsBy};
+ghost use Rattle.aps.specs.Inner.{EndsBy, outcomeStop, after, StopsBy};
 
 // One alternative: its coefficients and its clips.
 struct Alternative {

@@ -15,11 +15,10 @@ ghost use Rattle.bitstream.specs.Reading.{outcomeU};
 ghost use Rattle.aps.specs.Codec.{u, when, each};
 ghost use Rattle.aps.specs.Elements.{ueTo, noNumber, noSigned, apart};
 ghost use Rattle.aps.specs.AlfSyntax.{ceilLog2, coefficient};
-ghost use Rattle.aps.specs.Reading.{EndsBy, outcomeStop, outcomeSigned};
-ghost use Rattle.aps.specs.Stops.{after, StopsBy, Spans};
+ghost use Rattle.aps.specs.Inner.{EndsBy, outcomeStop, outcomeSigned, after, StopsBy, Spans};
 
 // Ceil( Log2( x ) ).
-pub fn ceil_log2(x: u32) -> u32
+pub(crate) fn ceil_log2(x: u32) -> u32
     ensures { λ r. ⌜ (r ≡ ceilLog2 x) × (r ≤ 32) ⌝ }
 {
     if x <= 1 {
@@ -133,7 +132,7 @@ pub(crate) fn read_clips(bytes: &[u8], from: Stop, n: usize, clip: &mut [u8]) ->
 }
 
 // How many clips are sent.
-pub fn clips_sent(clip: bool, n: usize) -> usize
+pub(crate) fn clips_sent(clip: bool, n: usize) -> usize
     ensures { λ r. ⌜ (r ≡ cond clip n 0) × (r ≤ n) ⌝ }
 {
     if clip { n } else { 0 }

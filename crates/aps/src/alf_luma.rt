@@ -19,8 +19,7 @@ ghost use lib.ListN.{length, replicate};
 ghost use Rattle.bitstream.specs.Outcome.{mapOutcome};
 ghost use Rattle.aps.specs.Codec.{each};
 ghost use Rattle.aps.specs.AlfSyntax.{luma, lumaIndexes, lumaFilters, toLuma};
-ghost use Rattle.aps.specs.Reading.{EndsBy, outcomeStop};
-ghost use Rattle.aps.specs.Stops.{StopsBy};
+ghost use Rattle.aps.specs.Inner.{EndsBy, outcomeStop, StopsBy};
 
 // The 25 indexes, each at most count - 1, if there is more than one filter.
 fn read_indexes(bytes: &[u8], p: usize, count_minus1: u32, idx: &mut [u8; 25]) -> Stop

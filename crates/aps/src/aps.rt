@@ -1,16 +1,16 @@
 // adaptation_parameter_set_rbsp(), H.266 7.3.2.6. After src/h266/aps.rs.
 use crate::alf::VvcAlfData;
-use crate::alf::read_alf;
+use crate::alf::parse_alf_data;
 use crate::alf::zero_alf;
 use crate::fields::Stop;
 use crate::fields::read_flag;
 use crate::fields::read_u;
 use crate::lmcs::VvcLmcsData;
-use crate::lmcs::read_lmcs;
+use crate::lmcs::parse_lmcs_data;
 use crate::lmcs::zero_lmcs;
 use crate::scaling_list::VvcScalingListData;
 use crate::scaling_list::zero_scaling;
-use crate::scaling_list_data::read_scaling;
+use crate::scaling_list_data::parse_scaling_list_data;
 use bitstream::LONGEST_INPUT;
 use bitstream::Refusal;
 use bitstream::bit_reader::BitReader;
@@ -19,8 +19,9 @@ ghost use mathlib.Core.Path.{_≡_};
 ghost use mathlib.Core.Bool.{false};
 ghost use Prim.Native.Nat.{_-_, _≤_};
 ghost use lib.ListN.{length};
-ghost use Rattle.aps.specs.Rbsp.{closed, readRbsp, parseApsRbsp, Headed};
-ghost use Rattle.aps.specs.ApsSyntax.{emptySet, zeroAlf, zeroLmcs, zeroScaling};
+ghost use Rattle.aps.specs.Inner.{Headed};
+ghost use Rattle.aps.specs.Rbsp.{closed, readRbsp, parseApsRbsp};
+ghost use Rattle.aps.specs.ApsSyntax.{emptySet, zeroAlf, zeroLmcs, zeroScaling, numberOf};
 ghost use Rattle.aps.specs.Reading.{outcomeRead, outcomeAps, setGiven};
 ghost use Rattle.aps.specs.declared.aps.VvcAps.{VvcAps};
 
@@ -31,13 +32,15 @@ pub enum ApsKind {
     Scaling,
 }
 
-// Each kind's number and its largest id.
+// Each kind's number, its largest id and the most bytes of its RBSP.
 pub struct Alf;
 
 impl Alf {
     pub const NUMBER: u8 = 0;
 
     pub const MAX_ID: u8 = 7;
+
+    pub const MAX_BYTES: usize = 832;
 }
 
 pub struct Lmcs;
@@ -46,6 +49,8 @@ impl Lmcs {
     pub const NUMBER: u8 = 1;
 
     pub const MAX_ID: u8 = 3;
+
+    pub const MAX_BYTES: usize = 37;
 }
 
 pub struct Scaling;
@@ -54,6 +59,19 @@ impl Scaling {
     pub const NUMBER: u8 = 2;
 
     pub const MAX_ID: u8 = 7;
+
+    pub const MAX_BYTES: usize = 2931;
+}
+
+// A kind's number.
+pub fn number_of(kind: ApsKind) -> u8
+    ensures { λ r. ⌜ r ≡ numberOf kind ⌝ }
+{
+    match kind {
+        ApsKind::Alf => Alf::NUMBER,
+        ApsKind::Lmcs => Lmcs::NUMBER,
+        ApsKind::Scaling => Scaling::NUMBER,
+    }
 }
 
 // A set: its kind beside the arrays of all three; those of the other two are 0 when it was read.
@@ -148,7 +166,7 @@ fn lmcs_answer(bytes: &[u8], id: u8, chroma: bool) -> LmcsAnswer
     if Lmcs::MAX_ID < id {
         return refuse_lmcs(Refusal::InvalidData);
     }
-    let read = read_lmcs(bytes, 9, chroma);
+    let read = parse_lmcs_data(bytes, 9, chroma);
     let stop = read.stop;
     let lmcs = read.lmcs;
     match stop {
@@ -201,7 +219,7 @@ fn alf_set(bytes: &[u8], id: u8, chroma: bool) -> ApsReading
     ensures answer { λ r. ⌜ outcomeAps r ≡ readRbsp (now (bytes .entry)) ⌝ }
     ensures set { λ r. ⌜ r .set ≡ setGiven (readRbsp (now (bytes .entry))) ⌝ }
 {
-    let read = read_alf(bytes, 9, chroma);
+    let read = parse_alf_data(bytes, 9, chroma);
     let stop = read.stop;
     let alf = read.alf;
     match stop {
@@ -237,7 +255,7 @@ fn scaling_set(bytes: &[u8], id: u8, chroma: bool) -> ApsReading
     ensures answer { λ r. ⌜ outcomeAps r ≡ readRbsp (now (bytes .entry)) ⌝ }
     ensures set { λ r. ⌜ r .set ≡ setGiven (readRbsp (now (bytes .entry))) ⌝ }
 {
-    let read = read_scaling(bytes, 9, chroma);
+    let read = parse_scaling_list_data(bytes, 9, chroma);
     let stop = read.stop;
     let scaling = read.scaling;
     match stop {

@@ -13,10 +13,10 @@ ghost use Rattle.bitstream.specs.Fields.{readUe, readSe};
 ghost use Rattle.bitstream.specs.Reading.{outcomeU, outcomeS};
 ghost use Rattle.aps.specs.Codec.{u};
 ghost use Rattle.aps.specs.Elements.{signed};
-ghost use Rattle.aps.specs.Reading.{EndsBy, outcomeSigned};
+ghost use Rattle.aps.specs.Inner.{EndsBy, outcomeSigned};
 
 // Where a run of fields ended, or why it was refused.
-pub enum Stop {
+pub(crate) enum Stop {
     End(usize),
     Refused(Refusal),
 }

@@ -10,10 +10,9 @@ ghost use mathlib.Core.Bool.{true};
 ghost use Prim.Native.Nat.{_+_, _≤_};
 ghost use lib.ListN.{length};
 ghost use Rattle.aps.specs.Codec.{when};
-ghost use Rattle.aps.specs.LmcsSyntax.{inRange, lmcsHead, lmcsCodewords, lmcsChroma, lmcsRest, lmcs};
+ghost use Rattle.aps.specs.Inner.{lmcsRest, EndsBy, outcomeStop, outcomeSigned, StopsBy};
+ghost use Rattle.aps.specs.LmcsSyntax.{inRange, lmcsHead, lmcsCodewords, lmcsChroma, lmcs};
 ghost use Rattle.aps.specs.ApsSyntax.{zeroLmcs};
-ghost use Rattle.aps.specs.Reading.{EndsBy, outcomeStop, outcomeSigned};
-ghost use Rattle.aps.specs.Stops.{StopsBy};
 
 pub struct VvcLmcsData {
     pub lmcs_min_bin_idx: u32,
@@ -59,7 +58,7 @@ pub(crate) fn zero_lmcs() -> VvcLmcsData
 }
 
 // Min 0..15; delta max 0..15 with 15 - delta max at least min; precision - 1 0..14.
-pub fn in_range(min: u32, max: u32, prec: u32) -> bool
+pub(crate) fn in_range(min: u32, max: u32, prec: u32) -> bool
     ensures { λ r. ⌜ r ≡ inRange (min, (max, prec)) ⌝ }
 {
     if 15 < min {
@@ -210,7 +209,7 @@ fn read_rest(bytes: &[u8], p: usize, chroma: bool, min: u32, max: u32, prec: u32
 }
 
 // lmcs_data().
-pub(crate) fn read_lmcs(bytes: &[u8], p: usize, chroma: bool) -> LmcsRead
+pub(crate) fn parse_lmcs_data(bytes: &[u8], p: usize, chroma: bool) -> LmcsRead
     requires { ⌜ (length (now bytes) ≤ 65536) × (p ≤ 100) ⌝ }
     ensures { λ r. ⌜ (outcomeStop (r .stop) (r .lmcs) ≡ (lmcs chroma) .read (now (bytes .entry)) p) × StopsBy (r .stop) (p + 500) ⌝ }
 {

@@ -1,9 +1,7 @@
 // scaling_list_data(), H.266 7.3.2.20.
 ghost use mathlib.Core.Path.{_≡_};
-ghost use mathlib.Core.Bool.{not, _&&_, _||_};
-ghost use Prim.Native.Nat.{_-_, _*_, _%_, _<_};
-ghost use lib.Dec.{eqb};
-ghost use Rattle.aps.specs.ScalingSyntax.{skipped, entries, maxIdDelta, idCoded};
+ghost use Prim.Native.Nat.{_%_};
+ghost use Rattle.aps.specs.ScalingSyntax.{skipped, matrixSize, entries, maxIdDelta, idCoded, deltaSent};
 ghost use Rattle.aps.specs.ApsSyntax.{zeroScaling};
 
 // List id is at 64 * id of the flat array, in the order of the diagonal scan.
@@ -30,21 +28,29 @@ pub(crate) fn zero_scaling() -> VvcScalingListData
     }
 }
 
-// matrixSize * matrixSize.
-pub fn matrix_entries(id: usize) -> usize
-    ensures { λ r. ⌜ r ≡ entries id ⌝ }
+// matrixSize.
+pub(crate) fn matrix_size(id: usize) -> usize
+    ensures { λ r. ⌜ r ≡ matrixSize id ⌝ }
 {
     if id < 2 {
-        return 4;
+        return 2;
     }
     if id < 8 {
-        return 16;
+        return 4;
     }
-    64
+    8
+}
+
+// matrixSize * matrixSize.
+pub(crate) fn matrix_entries(id: usize) -> usize
+    ensures { λ r. ⌜ r ≡ entries id ⌝ }
+{
+    let n = matrix_size(id);
+    n * n
 }
 
 // maxIdDelta (101).
-pub fn max_id_delta(id: usize) -> usize
+pub(crate) fn max_id_delta(id: usize) -> usize
     ensures { λ r. ⌜ r ≡ maxIdDelta id ⌝ }
 {
     if id < 2 {
@@ -57,7 +63,7 @@ pub fn max_id_delta(id: usize) -> usize
 }
 
 // The syntax codes id under this chroma flag.
-pub fn id_coded(id: usize, chroma: bool) -> bool
+pub(crate) fn scaling_id_coded(id: usize, chroma: bool) -> bool
     ensures { λ r. ⌜ r ≡ idCoded chroma id ⌝ }
 {
     if chroma {
@@ -70,7 +76,7 @@ pub fn id_coded(id: usize, chroma: bool) -> bool
 }
 
 // A step of id that is not read, at a position of the 64.
-pub fn step_skipped(id: usize, i: usize) -> bool
+pub(crate) fn step_skipped(id: usize, i: usize) -> bool
     ensures { λ r. ⌜ r ≡ skipped id (i % 64) ⌝ }
 {
     if 25 < id {
@@ -80,8 +86,8 @@ pub fn step_skipped(id: usize, i: usize) -> bool
 }
 
 // scaling_list_pred_id_delta is sent for an id that is copied or predicted, but for the first of each size.
-pub fn delta_sent(id: usize, used: bool) -> bool
-    ensures { λ r. ⌜ r ≡ (used && not (eqb id 0 || eqb id 2 || eqb id 8)) ⌝ }
+pub(crate) fn delta_sent(id: usize, used: bool) -> bool
+    ensures { λ r. ⌜ r ≡ deltaSent id used ⌝ }
 {
     if !used {
         return false;

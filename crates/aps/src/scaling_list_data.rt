@@ -5,9 +5,9 @@ use crate::fields::read_se;
 use crate::fields::read_ue;
 use crate::scaling_list::VvcScalingListData;
 use crate::scaling_list::delta_sent;
-use crate::scaling_list::id_coded;
 use crate::scaling_list::matrix_entries;
 use crate::scaling_list::max_id_delta;
+use crate::scaling_list::scaling_id_coded;
 use crate::scaling_list::step_skipped;
 use crate::scaling_list::zero_scaling;
 use bitstream::Refusal;
@@ -24,8 +24,8 @@ ghost use lib.Seq.{sets};
 ghost use Rattle.bitstream.specs.Outcome.{mapOutcome};
 ghost use Rattle.bitstream.specs.Reading.{outcomeU, outcomeS};
 ghost use Rattle.aps.specs.Elements.{seIn};
-ghost use Rattle.aps.specs.ScalingSyntax.{entries, stepAt, sums, dcAt, deltaAt, coefficients, entrySyntax, idAt, scalingSyntax, keep, storedList, stored};
-ghost use Rattle.aps.specs.Reading.{EndsBy, outcomeStop, outcomeCoefficients, outcomeId};
+ghost use Rattle.aps.specs.Inner.{storedList, stored, EndsBy, outcomeStop, outcomeCoefficients, outcomeId};
+ghost use Rattle.aps.specs.ScalingSyntax.{entries, stepAt, sums, dcAt, deltaAt, coefficients, entrySyntax, idAt, scalingSyntax, keep};
 
 // What reading scaling_list_data() gives.
 pub(crate) struct ScalingRead {
@@ -216,7 +216,7 @@ fn read_id(bytes: &[u8], p: usize, chroma: bool, id: usize, list: &mut [i32; 179
     requires { ⌜ (length (now bytes) ≤ 65536) × (p ≤ 600000) × (id < 28) ⌝ }
     ensures { λ r. ⌜ (outcomeId r (now (list .exit)) ≡ mapOutcome (stored (now (list .entry)) id) ((idAt chroma id) .read (now (bytes .entry)) p)) × EndsBy (outcomeId r (now (list .exit))) (p + 4160) ⌝ }
 {
-    if id_coded(id, chroma) {
+    if scaling_id_coded(id, chroma) {
         return read_entry(bytes, p, id, list);
     }
     IdRead {
@@ -239,7 +239,7 @@ fn store_dc(dc: &mut [i32; 14], id: usize, value: i32)
 }
 
 // scaling_list_data().
-pub(crate) fn read_scaling(bytes: &[u8], p: usize, chroma: bool) -> ScalingRead
+pub(crate) fn parse_scaling_list_data(bytes: &[u8], p: usize, chroma: bool) -> ScalingRead
     requires { ⌜ (length (now bytes) ≤ 65536) × (p ≤ 100) ⌝ }
     ensures { λ r. ⌜ (outcomeStop (r .stop) (r .scaling) ≡ mapOutcome keep ((scalingSyntax chroma) .read (now (bytes .entry)) p)) × EndsBy (outcomeStop (r .stop) (r .scaling)) (p + 200000) ⌝ }
 {

@@ -13,7 +13,8 @@ ghost use Prim.Native.Nat.{_-_, _≤_};
 ghost use lib.ListN.{length, drop};
 ghost use mathlib.Core.List.{_++_};
 ghost use Rattle.aps.specs.Rbsp.{readRbsp};
-ghost use Rattle.aps.specs.Unit.{isAps, rbspOf, outcomeJ, judgedUnit, parseAps, workAfter};
+ghost use Rattle.aps.specs.Inner.{outcomeAdmission};
+ghost use Rattle.aps.specs.Unit.{isAps, rbspOf, admitted, parseAps, workAfter};
 ghost use Rattle.aps.specs.Reading.{outcomeAps, setGiven};
 
 // A prefix or a suffix APS.
@@ -27,31 +28,31 @@ pub fn is_aps(unit_type: u8) -> bool
 }
 
 // Whether a unit gets as far as its RBSP.
-pub(crate) enum UnitJudged {
+pub(crate) enum Admission {
     Aps,
     Refused(Refusal),
 }
 
-fn judge(unit: &[u8], room: usize) -> UnitJudged
-    ensures { λ r. ⌜ outcomeJ r ≡ judgedUnit (now (unit .entry)) room ⌝ }
+fn admit(unit: &[u8], room: usize) -> Admission
+    ensures { λ r. ⌜ outcomeAdmission r ≡ admitted (now (unit .entry)) room ⌝ }
 {
     if LONGEST_INPUT < unit.len() {
-        return UnitJudged::Refused(Refusal::InputTooLong);
+        return Admission::Refused(Refusal::InputTooLong);
     }
     if unit.len() < 2 {
-        return UnitJudged::Refused(Refusal::UnexpectedEnd);
+        return Admission::Refused(Refusal::UnexpectedEnd);
     }
     if !is_aps(unit[1] / 8) {
-        return UnitJudged::Refused(Refusal::InvalidData);
+        return Admission::Refused(Refusal::InvalidData);
     }
     if room < unit.len() - 2 {
-        return UnitJudged::Refused(Refusal::OutputTooShort);
+        return Admission::Refused(Refusal::OutputTooShort);
     }
-    UnitJudged::Aps
+    Admission::Aps
 }
 
-// The set of a unit that was judged: its RBSP goes to the start of the work buffer.
-fn parse_judged(unit: &[u8], work: &mut [u8]) -> ApsReading
+// The set of a unit that was admitted: its RBSP goes to the start of the work buffer.
+fn parse_admitted(unit: &[u8], work: &mut [u8]) -> ApsReading
     requires { ⌜ (2 ≤ length (now unit)) × (length (now unit) ≤ 65536) × (length (now unit) - 2 ≤ length (now work)) ⌝ }
     ensures answer { λ r. ⌜ outcomeAps r ≡ readRbsp (rbspOf (now (unit .entry))) ⌝ }
     ensures set { λ r. ⌜ r .set ≡ setGiven (readRbsp (rbspOf (now (unit .entry)))) ⌝ }
@@ -69,8 +70,8 @@ pub fn parse_aps(unit: &[u8], work: &mut [u8]) -> ApsReading
     ensures set { λ r. ⌜ r .set ≡ setGiven (parseAps (now (unit .entry)) (length (now (work .entry)))) ⌝ }
     ensures work { λ _. ⌜ now (work .exit) ≡ workAfter (now (unit .entry)) (now (work .entry)) ⌝ }
 {
-    match judge(unit, work.len()) {
-        UnitJudged::Aps => parse_judged(unit, work),
-        UnitJudged::Refused(why) => refuse(why),
+    match admit(unit, work.len()) {
+        Admission::Aps => parse_admitted(unit, work),
+        Admission::Refused(why) => refuse(why),
     }
 }

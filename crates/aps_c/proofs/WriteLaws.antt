@@ -9,7 +9,7 @@ use lib.IntN.{ℤ}
 use lib.ListN.{length}
 use Rattle.bitstream.specs.Outcome.{Outcome, value, refused, left}
 use Rattle.aps.specs.Rbsp.{parseApsRbsp}
-use Rattle.aps_writer.specs.Writing.{writeAps, writeApsNal}
+use Rattle.aps.specs.Writing.{writeAps, writeApsNal}
 use Rattle.aps.specs.declared.aps.VvcAps.{VvcAps}
 use Rattle.aps.proofs.CodecLaws.{and-left}
 use Rattle.aps_c.specs.SetOf.{held, isSet, setOf}

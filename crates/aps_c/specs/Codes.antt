@@ -7,7 +7,7 @@ use lib.ListN.{set}
 use lib.Seq.{sets}
 use Rattle.bitstream.specs.Outcome.{Outcome, value, refused, _then_}
 use Rattle.aps.specs.Rbsp.{parseApsRbsp}
-use Rattle.aps_writer.specs.Writing.{writeAps, writeApsNal}
+use Rattle.aps.specs.Writing.{writeAps, writeApsNal}
 use Rattle.aps.specs.declared.aps.VvcAps.{VvcAps}
 use Rattle.aps.specs.declared.nal_header.VvcNalHeader.{VvcNalHeader}
 use Rattle.aps_c.specs.Numbers.{numbers, headerNumbers}

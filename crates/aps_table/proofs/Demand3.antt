@@ -10,7 +10,7 @@ use lib.Seq.{length-sets}
 use Rattle.bitstream.specs.Outcome.{Outcome, value, refused, _then_}
 use Rattle.bitstream.specs.Escapes.{putBytes}
 use Rattle.aps.specs.Unit.{rbspOf}
-use Rattle.aps_writer.proofs.UnitWrites.{not-copied}
+use Rattle.aps.proofs.UnitWrites.{not-copied}
 use Rattle.aps_table.specs.Places.{largest, named, names, placeAt, newTable, Entries, kindIn, idIn, held, missing, foundIn, look}
 use Rattle.aps_table.specs.Taking.{Verdict, accept, pass, refuse, verdict, put, takeUnit, takeUnits}
 use Rattle.aps_table.specs.Calls.{Call, stream, alone, Answer, counting, unitsTaken, afterUnits, tableAfter, answerTo}

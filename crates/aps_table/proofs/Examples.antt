@@ -15,8 +15,8 @@ use Rattle.aps.specs.AlfSyntax.{ceilLog2, coefficient, lumaSyntax, toLuma, from
 use Rattle.aps.specs.ScalingSyntax.{diagNext, diagScan, skipped, entries, maxIdDelta, idCoded, step, sums, coefficients, entrySyntax, scalingSyntax, filled, keep, looked, look}
 use Rattle.aps.specs.ApsSyntax.{zeroAlf, zeroLmcs, zeroScaling, payload, apsSyntax, toAps, fromAps, aps}
 use Rattle.aps.specs.Rbsp.{closed, readRbsp, rbspBits, rbspBytes}
-use Rattle.aps.specs.Unit.{judgedUnit, parseAps}
-use Rattle.aps_writer.specs.Writing.{bytesDue, unitOf}
+use Rattle.aps.specs.Unit.{admitted, parseAps}
+use Rattle.aps.specs.Writing.{bytesDue, unitOf}
 use Rattle.aps_table.specs.Split.{Units, gap, split}
 use Rattle.aps_table.specs.Places.{kindIn, idIn, extended}
 use Rattle.aps_table.specs.Taking.{isPassed, verdict, tally}
@@ -74,5 +74,5 @@ rows =
 
 -- each row is as the definitions give it
 pub example-rows : map given rows ≡ rows
-unfolding rows bitAt fieldAt fieldBits putInByte putBit putBits pack readU zeroAt zerosAt suffixAt ueValue ueFrom readUe ueZeros ueBits seValue seCode trailingValue trailingWidth trailingBits readTrailing escapeFrom unescapeFrom putBytes leadingZeros u ue _▷_ via judged when eachFrom provided never flag ueTo se seIn signed apart flat inRange lmcsSyntax toLmcs fromLmcs lmcs ceilLog2 coefficient lumaSyntax toLuma fromLuma luma alternative chromaSyntax toChroma fromChroma chroma ccSyntax toCc fromCc cc alfSyntax toAlf fromAlf alf diagNext diagScan skipped entries maxIdDelta idCoded step sums coefficients entrySyntax scalingSyntax filled keep looked look zeroAlf zeroLmcs zeroScaling payload apsSyntax toAps fromAps aps closed readRbsp rbspBits rbspBytes bytesDue gap isPassed verdict judgedUnit parseAps tally unitsTaken kindIn idIn extended noteUnits enters entryDue unitOf listed anyExtended listDue
+unfolding rows bitAt fieldAt fieldBits putInByte putBit putBits pack readU zeroAt zerosAt suffixAt ueValue ueFrom readUe ueZeros ueBits seValue seCode trailingValue trailingWidth trailingBits readTrailing escapeFrom unescapeFrom putBytes leadingZeros u ue _▷_ via judged when eachFrom provided never flag ueTo se seIn signed apart flat inRange lmcsSyntax toLmcs fromLmcs lmcs ceilLog2 coefficient lumaSyntax toLuma fromLuma luma alternative chromaSyntax toChroma fromChroma chroma ccSyntax toCc fromCc cc alfSyntax toAlf fromAlf alf diagNext diagScan skipped entries maxIdDelta idCoded step sums coefficients entrySyntax scalingSyntax filled keep looked look zeroAlf zeroLmcs zeroScaling payload apsSyntax toAps fromAps aps closed readRbsp rbspBits rbspBytes bytesDue gap isPassed verdict admitted parseAps tally unitsTaken kindIn idIn extended noteUnits enters entryDue unitOf listed anyExtended listDue
 example-rows = refl

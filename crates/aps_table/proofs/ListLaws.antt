@@ -18,8 +18,8 @@ use Rattle.aps.specs.declared.aps.ApsKind.{ApsKind}
 use Rattle.aps.specs.declared.aps.VvcAps.{VvcAps}
 use Rattle.aps.proofs.CodecLaws.{then-value}
 use Rattle.aps.proofs.RbspLaws.{mostBytes, rbsp-sound, rbsp-most}
-use Rattle.aps_writer.specs.Writing.{bytesDue, unitOf}
-use Rattle.aps_writer.proofs.RbspWrites.{due-taken, taken-due}
+use Rattle.aps.specs.Writing.{bytesDue, unitOf}
+use Rattle.aps.proofs.RbspWrites.{due-taken, taken-due}
 use Rattle.aps_table.specs.Places.{Entries, ids, names, kindIn, idIn, extended, placeBytes, under, held}
 use Rattle.aps_table.specs.List.{coded, entry, entryDue, joined, listed, isExtended, anyExtended, listDue, listAt}
 

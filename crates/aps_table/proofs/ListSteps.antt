@@ -15,11 +15,11 @@ use Rattle.bitstream.proofs.CodeLaws.{value-refused}
 use Rattle.bitstream.proofs.EscapeLaws.{escape-most}
 use Rattle.bitstream.proofs.WriteLaws.{wrote}
 use Rattle.aps.specs.Rbsp.{readRbsp}
-use Rattle.aps.specs.Stops.{StopsBy}
+use Rattle.aps.specs.Inner.{StopsBy}
 use Rattle.aps.specs.declared.fields.Stop.{Stop}
 use Rattle.aps.specs.declared.fields.Stop.the-variants as Stop
 use Rattle.aps.specs.declared.aps.VvcAps.{VvcAps}
-use Rattle.aps_writer.specs.Writing.{unitOf}
+use Rattle.aps.specs.Writing.{unitOf}
 use Rattle.aps_table.specs.Places.{Entries, Names, largest, ids, names, placeBytes, under, held, kindIn}
 use Rattle.aps_table.specs.List.{coded, entry, entryDue, joined, listed, writeList, upTo, listAt}
 use Rattle.aps_table.proofs.ListLaws.{joined-first, joined-last, joined-joined, listed-append, listed-next, held-some, listed-due, entry-fits}

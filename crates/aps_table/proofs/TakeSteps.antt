@@ -11,7 +11,7 @@ use lib.Seq.{sets, take-append-le, length-take-le}
 use Rattle.bitstream.specs.Outcome.{value, refused}
 use Rattle.aps.specs.ApsSyntax.{numberOf}
 use Rattle.aps.specs.Rbsp.{readRbsp}
-use Rattle.aps.specs.Unit.{isAps, rbspOf, judgedUnit, parseAps, workAfter}
+use Rattle.aps.specs.Unit.{isAps, rbspOf, admitted, parseAps, workAfter}
 use Rattle.aps.specs.declared.aps.VvcAps.{VvcAps}
 use Rattle.aps.proofs.CodecLaws.{then-value, and-left, and-right}
 use Rattle.aps.proofs.RbspLaws.{rbsp-end}
@@ -46,8 +46,8 @@ counts-refused (refuse m) c n e = refl
 
 module _ (u w t : List ℕ) (p : isPassed u ≡ true) where
   -- its header is refused
-  judged-passed : judgedUnit u (length w) ≡ refused 2
-  unfolding isPassed judgedUnit
+  judged-passed : admitted u (length w) ≡ refused 2
+  unfolding isPassed admitted
   judged-passed =
       let a = leb (length u) 65536 in
       let b = leb 2 (length u) in
@@ -78,7 +78,7 @@ module _ (u w : List ℕ) (a : VvcAps) (q : ℕ) (e : parseAps u (length w) ≡ 
   unit-set : (readRbsp (rbspOf u) ≡ value a q) × (workAfter u w ≡ rbspOf u ++ drop (length (rbspOf u)) w)
   unfolding parseAps workAfter
   unit-set =
-      let (x, r, ej, er) = then-value (judgedUnit u (length w)) (λ e p. readRbsp (rbspOf u)) e in
+      let (x, r, ej, er) = then-value (admitted u (length w)) (λ e p. readRbsp (rbspOf u)) e in
       (er, rw ej)
 
   -- the bytes that were read end in the RBSP

@@ -11,12 +11,12 @@ use Rattle.bitstream.specs.Escapes.{escape, zerosAtEnd, Clean}
 use Rattle.bitstream.proofs.EscapeLaws.{none-at-end, escape-clean, escape-trailing}
 use Rattle.aps.specs.ApsSyntax.{numberOf, aps, inferred}
 use Rattle.aps.specs.Rbsp.{readRbsp, rbspBytes}
-use Rattle.aps.specs.Unit.{rbspOf, judgedUnit, parseAps}
+use Rattle.aps.specs.Unit.{rbspOf, admitted, parseAps}
 use Rattle.aps.specs.declared.aps.ApsKind.{ApsKind}
 use Rattle.aps.specs.declared.aps.VvcAps.{VvcAps}
 use Rattle.aps.proofs.RbspLaws.{mostBytes, rbsp-sound, write-read, rbsp-some, rbsp-last}
-use Rattle.aps_writer.specs.Writing.{unitOf}
-use Rattle.aps_writer.proofs.RoundTrips.{unit-parsed}
+use Rattle.aps.specs.Writing.{unitOf}
+use Rattle.aps.proofs.RoundTrips.{unit-parsed}
 use Rattle.aps_table.specs.Places.{kindIn, extended}
 use Rattle.aps_table.specs.Taking.{accept, pass, judged, isPassed, verdict}
 use Rattle.aps_table.specs.List.{entryDue}
@@ -26,7 +26,7 @@ use Rattle.aps_table.proofs.ListLaws.{due-plain, entry-most}
 -- a unit is accepted only where its RBSP is read as a set
 pub accepted-read : (u : List ℕ) (room : ℕ) (a : VvcAps) (q : ℕ) → verdict u room ≡ accept a q → readRbsp (rbspOf u) ≡ value a q
 unfolding verdict parseAps
-accepted-read u room a q = go (isPassed u) (judgedUnit u room) (readRbsp (rbspOf u))
+accepted-read u room a q = go (isPassed u) (admitted u room) (readRbsp (rbspOf u))
   where
     go : (b : Bool) (o : Outcome (Unit {0})) (r : Outcome VvcAps) → cond b pass (judged (o then λ e p. r)) ≡ accept a q → r ≡ value a q
     go true o r e = cc

@@ -8,9 +8,9 @@ use Rattle.bitstream.specs.Outcome.{Outcome, value, refused, _then_}
 use Rattle.bitstream.specs.Escapes.{putBytes}
 use Rattle.aps.specs.declared.fields.Stop.{Stop}
 use Rattle.aps.specs.declared.fields.Stop.the-variants as Stop
-use Rattle.aps.specs.Reading.{outcomeStop}
+use Rattle.aps.specs.Inner.{outcomeStop}
 use Rattle.aps.specs.declared.aps.VvcAps.{VvcAps}
-use Rattle.aps_writer.specs.Writing.{bytesDue, unitOf}
+use Rattle.aps.specs.Writing.{bytesDue, unitOf}
 use Rattle.aps_table.specs.Places.{Entries, names, extended, held}
 
 -- 00 00 00 01, then the unit as `write_aps_nal` gives it for type 17

@@ -10,7 +10,7 @@ use aps::aps::Scaling;
 use aps::aps::parse_aps_rbsp;
 use aps::fields::Stop;
 use aps::nal_header::NAL_TYPE_PREFIX_APS;
-use aps_writer::write::copy_out;
+use aps::write::copy_out;
 use bitstream::Refusal;
 use bitstream::nal::Size;
 use bitstream::nal::rbsp_to_ebsp;
@@ -20,7 +20,7 @@ ghost use lib.ListN.{length};
 ghost use Rattle.bitstream.specs.Outcome.{left, value};
 ghost use Rattle.bitstream.specs.Escapes.{outcomeSize};
 ghost use Rattle.aps.specs.Rbsp.{readRbsp};
-ghost use Rattle.aps.specs.Stops.{StopsBy};
+ghost use Rattle.aps.specs.Inner.{StopsBy};
 ghost use Rattle.aps_table.specs.Places.{Names, names, ids, largest, under, held};
 ghost use Rattle.aps_table.specs.List.{upTo, coded, entry, joined, listed, listAt, writeList};
 

@@ -3,6 +3,7 @@ use aps::aps::Alf;
 use aps::aps::ApsKind;
 use aps::aps::Lmcs;
 use aps::aps::Scaling;
+use aps::aps::number_of;
 ghost use mathlib.Core.Path.{_≡_};
 ghost use Prim.Native.Nat.{_+_, _≤_};
 ghost use mathlib.Core.Bool.{_&&_};
@@ -29,16 +30,6 @@ pub fn new_table() -> Table
     ensures { λ r. ⌜ r ≡ newTable ⌝ }
 {
     [0u8; TABLE_BYTES]
-}
-
-pub(crate) fn number_of(kind: ApsKind) -> u8
-    ensures { λ r. ⌜ r ≡ numberOf kind ⌝ }
-{
-    match kind {
-        ApsKind::Alf => Alf::NUMBER,
-        ApsKind::Lmcs => Lmcs::NUMBER,
-        ApsKind::Scaling => Scaling::NUMBER,
-    }
 }
 
 // A kind and an id that name a place.

@@ -2,7 +2,6 @@
 use crate::places::Table;
 use crate::places::is_named;
 use crate::places::is_own;
-use crate::places::number_of;
 use crate::places::place_at;
 use crate::places::place_size;
 use crate::places::store;
@@ -13,6 +12,7 @@ use aps::aps::ApsOutcome;
 use aps::aps::ApsReading;
 use aps::aps::VvcAps;
 use aps::aps::empty_set;
+use aps::aps::number_of;
 use aps::aps::parse_aps_rbsp;
 use aps::unit::is_aps;
 use aps::unit::parse_aps;

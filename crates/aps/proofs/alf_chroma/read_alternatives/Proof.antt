@@ -9,7 +9,7 @@ use denote.Ref.{now}
 use lib.ListN.{length}
 use Rattle.bitstream.specs.Outcome.{number}
 use Rattle.aps.specs.Elements.{zipped}
-use Rattle.aps.specs.Reading.{outcomeStop}
+use Rattle.aps.specs.Inner.{outcomeStop}
 use Rattle.aps.specs.declared.fields.Stop.{Stop}
 use Rattle.aps.proofs.AlternativeSteps.{Rows, rows-from, rows-more, rows-refused, rows-done}
 use Rattle.aps.proofs.alf_chroma.read_alternatives.Statement.{statement}

@@ -10,7 +10,7 @@ use lib.Dec.{leb}
 use Rattle.bitstream.specs.Outcome.{value, refused, number}
 use Rattle.aps.specs.Codec.{Codec, u, when}
 use Rattle.aps.specs.Elements.{signed, noSigned}
-use Rattle.aps.specs.Reading.{outcomeSigned}
+use Rattle.aps.specs.Inner.{outcomeSigned}
 use Rattle.aps.proofs.Steps.{when-read, Reading2, reading2-more, reading2-done, reading2-refused}
 use Rattle.aps.proofs.AlfSteps.{reading2-from, signed-lt}
 use Rattle.aps.proofs.alf_chroma.read_cc_coefficients.Statement.{statement}

@@ -13,7 +13,7 @@ use Rattle.bitstream.specs.Outcome.{value, refused, number}
 use Rattle.aps.specs.Codec.{Codec, when}
 use Rattle.aps.specs.Elements.{noSigned}
 use Rattle.aps.specs.AlfSyntax.{coefficient}
-use Rattle.aps.specs.Reading.{outcomeSigned}
+use Rattle.aps.specs.Inner.{outcomeSigned}
 use Rattle.aps.proofs.Steps.{when-read, Reading2, reading2-more, reading2-done, reading2-refused}
 use Rattle.aps.proofs.AlfSteps.{reading2-from}
 use Rattle.aps.proofs.StopLaws.{after-end, spans-end}

@@ -7,7 +7,7 @@ use native.Mathlib.Omega.{arith}
 use denote.Ref.{now}
 use Rattle.bitstream.specs.Reading.{outcomeU}
 use Rattle.aps.specs.AlfSyntax.{luma, lumaSyntax, lumaFilters, toLuma, fromLuma, noLuma}
-use Rattle.aps.specs.Reading.{outcomeStop}
+use Rattle.aps.specs.Inner.{outcomeStop}
 use Rattle.aps.proofs.AlfSteps.{ueTo-most, head-value, head-refused}
 use Rattle.aps.proofs.StopLaws.{ends-more}
 use Rattle.aps.proofs.alf_luma.read_luma.Statement.{statement}

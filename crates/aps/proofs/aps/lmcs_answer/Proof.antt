@@ -6,7 +6,7 @@ use denote.Ref.{now}
 use native.Mathlib.Omega.{arith}
 use Rattle.bitstream.specs.Outcome.{value}
 use Rattle.aps.specs.LmcsSyntax.{lmcs}
-use Rattle.aps.specs.Reading.{outcomeStop}
+use Rattle.aps.specs.Inner.{outcomeStop}
 use Rattle.aps.proofs.aps.lmcs_answer.Statement.{statement}
 use Rattle.aps.proofs.aps.lmcs_answer.Tie as tie
 use Rattle.aps.specs.ApsSyntax.{zeroAlf, zeroScaling}
@@ -16,9 +16,9 @@ use Rattle.aps.proofs.RbspSteps.{withExtension, setOf, lmcs-refused, lm
 
 -- what the payload gave, and how far it reached
 taken : (c : tie.After-known-told)
-    → ((lmcs (c .before .before .before .before .before .before .before .args .chroma)) .read (now (c .before .before .before .before .before .before .before .args .bytes)) 9 ≡ value (c .before .before .before .before .read-lmcs .result .lmcs) (c .before .stop .given .0 .0)) × (c .before .stop .given .0 .0 ≤ 509)
+    → ((lmcs (c .before .before .before .before .before .before .before .args .chroma)) .read (now (c .before .before .before .before .before .before .before .args .bytes)) 9 ≡ value (c .before .before .before .before .parse-lmcs-data .result .lmcs) (c .before .stop .given .0 .0)) × (c .before .stop .given .0 .0 ≤ 509)
 taken c =
-    let k = c .before .before .before .before .read-lmcs in
+    let k = c .before .before .before .before .parse-lmcs-data in
     (answered (λ st. outcomeStop st (k .result .lmcs)) (c .before .stop .given .1) (k .ensures .0), rw (c .before .stop .given .1) at (k .ensures .1))
 
 refuse-lmcs-requires : tie.Need-refuse-lmcs-requires
@@ -29,8 +29,8 @@ returns c =
     let b = c .before .before .before in
     refused-parts _ (c .refuse-lmcs .ensures) (lmcs-id (now (b .args .bytes)) (b .args .id) (b .args .chroma) (b .pre .1) (c .before .if1 .taken))
 
-read-lmcs-requires : tie.Need-read-lmcs-requires
-read-lmcs-requires c κs = search needs
+parse-lmcs-data-requires : tie.Need-parse-lmcs-data-requires
+parse-lmcs-data-requires c κs = search needs
 
 enum-known-stop : tie.Need-enum-known-stop
 enum-known-stop c = search needs
@@ -63,7 +63,7 @@ returns-2 : tie.Need-returns-2
 unfolding withExtension
 returns-2 c =
     let b = c .before .before .before .before .before .before .before .before .before .before .before .before in
-    let k = c .before .before .before .before .before .before .before .before .before .read-lmcs in
+    let k = c .before .before .before .before .before .before .before .before .before .parse-lmcs-data in
     let t = taken (c .before .before .before .before .before) in
     let x = c .before .before .before .before .read-flag in
     let r = c .before .before .before .read-end in
@@ -73,7 +73,7 @@ returns-2 c =
 returns-3 : tie.Need-returns-3
 returns-3 c =
     let b = c .before .before .before .before .before .before .before .before .before .before .before .before .before in
-    let k = c .before .before .before .before .before .before .before .before .before .before .read-lmcs in
+    let k = c .before .before .before .before .before .before .before .before .before .before .parse-lmcs-data in
     let t = taken (c .before .before .before .before .before .before) in
     let x = c .before .before .before .before .before .read-flag in
     let r = c .before .before .before .before .read-end in
@@ -83,7 +83,7 @@ returns-3 c =
 returns-4 : tie.Need-returns-4
 returns-4 c =
     let b = c .before .before .before .before .before .before .before .before in
-    let k = c .before .before .before .before .before .read-lmcs in
+    let k = c .before .before .before .before .before .parse-lmcs-data in
     let e = answered (λ st. outcomeStop st (k .result .lmcs)) (c .before .before .stop2 .given .1) (k .ensures .0) in
     refused-parts _ (c .refuse-lmcs3 .ensures) (lmcs-refused (now (b .args .bytes)) (b .args .id) (b .args .chroma) (b .pre .1) (c .before .before .before .before .before .before .if1 .left) _ e)
 
@@ -93,7 +93,7 @@ lmcs-answer-spec =
     (tie.spec
     refuse-lmcs-requires
     returns
-    read-lmcs-requires
+    parse-lmcs-data-requires
     enum-known-stop
     read-flag-requires
     add-read-end

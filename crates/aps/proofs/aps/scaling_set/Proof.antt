@@ -6,7 +6,7 @@ use denote.Ref.{now}
 use native.Mathlib.Omega.{arith}
 use Rattle.bitstream.specs.Outcome.{value, mapOutcome}
 use Rattle.aps.specs.ScalingSyntax.{keep, scalingSyntax}
-use Rattle.aps.specs.Reading.{outcomeStop}
+use Rattle.aps.specs.Inner.{outcomeStop}
 use Rattle.aps.proofs.aps.scaling_set.Statement.{statement}
 use Rattle.aps.proofs.aps.scaling_set.Tie as tie
 use Rattle.aps.specs.ApsSyntax.{zeroAlf, zeroLmcs}
@@ -16,15 +16,15 @@ use Rattle.aps.proofs.RbspSteps.{withExtension, setOf, scaling-refused,
 
 -- what the payload gave, and how far it reached
 taken : (c : tie.After-known-told)
-    → (mapOutcome keep ((scalingSyntax (c .before .before .before .before .before .before .args .chroma)) .read (now (c .before .before .before .before .before .before .args .bytes)) 9) ≡ value (c .before .before .before .before .read-scaling .result .scaling) (c .before .stop .given .0 .0)) × (c .before .stop .given .0 .0 ≤ 200009)
+    → (mapOutcome keep ((scalingSyntax (c .before .before .before .before .before .before .args .chroma)) .read (now (c .before .before .before .before .before .before .args .bytes)) 9) ≡ value (c .before .before .before .before .parse-scaling-list-data .result .scaling) (c .before .stop .given .0 .0)) × (c .before .stop .given .0 .0 ≤ 200009)
 taken c =
-    let k = c .before .before .before .before .read-scaling in (
+    let k = c .before .before .before .before .parse-scaling-list-data in (
       answered (λ st. outcomeStop st (k .result .scaling)) (c .before .stop .given .1) (k .ensures .0),
       rw (c .before .stop .given .1) at (k .ensures .1),
     )
 
-read-scaling-requires : tie.Need-read-scaling-requires
-read-scaling-requires c κs = search needs
+parse-scaling-list-data-requires : tie.Need-parse-scaling-list-data-requires
+parse-scaling-list-data-requires c κs = search needs
 
 enum-known-stop : tie.Need-enum-known-stop
 enum-known-stop c = search needs
@@ -72,7 +72,7 @@ returns-2 : tie.Need-returns-2
 unfolding withExtension
 returns-2 c =
     let b = c .before .before .before .before .before .before .before .before .before .before .before .before .before .before in
-    let k = c .before .before .before .before .before .before .before .before .before .before .before .before .read-scaling in
+    let k = c .before .before .before .before .before .before .before .before .before .before .before .before .parse-scaling-list-data in
     let t = taken (c .before .before .before .before .before .before .before .before) in
     let x = c .before .before .before .before .before .before .read-flag in
     let r = c .before .before .before .before .before .read-end in
@@ -82,7 +82,7 @@ returns-2 c =
 returns-3 : tie.Need-returns-3
 returns-3 c =
     let b = c .before .before .before .before .before .before .before .before .before .before .before .before .before in
-    let k = c .before .before .before .before .before .before .before .before .before .before .before .read-scaling in
+    let k = c .before .before .before .before .before .before .before .before .before .before .before .parse-scaling-list-data in
     let t = taken (c .before .before .before .before .before .before .before) in
     let x = c .before .before .before .before .before .read-flag in
     let r = c .before .before .before .before .read-end in
@@ -92,7 +92,7 @@ returns-3 c =
 returns-4 : tie.Need-returns-4
 returns-4 c =
     let b = c .before .before .before .before .before .before .before in
-    let k = c .before .before .before .before .before .read-scaling in
+    let k = c .before .before .before .before .before .parse-scaling-list-data in
     let e = answered (λ st. outcomeStop st (k .result .scaling)) (c .before .before .stop2 .given .1) (k .ensures .0) in
     refused-answer (c .refuse3 .result) _ (c .refuse3 .ensures) (scaling-refused (now (b .args .bytes)) (b .args .id) (b .args .chroma) (b .pre .1) _ e)
 
@@ -100,7 +100,7 @@ pub scaling-set-spec : {M : Type 1} → statement M
 scaling-set-spec =
     tie.close
     (tie.spec
-    read-scaling-requires
+    parse-scaling-list-data-requires
     enum-known-stop
     refuse-requires
     returns

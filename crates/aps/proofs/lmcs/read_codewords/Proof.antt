@@ -7,7 +7,7 @@ use borrow.Author.Needs.{needs}
 use borrow.Author.Tests.{le-leb, lt-leb}
 use native.Mathlib.Omega.{arith}
 use Rattle.bitstream.specs.Outcome.{value, refused, number}
-use Rattle.aps.specs.Reading.{outcomeSigned}
+use Rattle.aps.specs.Inner.{outcomeSigned}
 use Rattle.aps.proofs.Answers.{answered}
 use Rattle.aps.proofs.LmcsSteps.{in-range, bin}
 use Rattle.aps.proofs.Steps.{when-read, Reading2, reading2-from, reading2-more, reading2-done, reading2-refused}

@@ -6,7 +6,7 @@ use denote.Ref.{now}
 use native.Mathlib.Omega.{arith}
 use Rattle.bitstream.specs.Outcome.{value}
 use Rattle.aps.specs.LmcsSyntax.{lmcsCodewords, toLmcs}
-use Rattle.aps.specs.Reading.{outcomeStop, outcomeSigned}
+use Rattle.aps.specs.Inner.{outcomeStop, outcomeSigned}
 use Rattle.aps.proofs.Answers.{answered}
 use Rattle.aps.proofs.LmcsSteps.{crs-lt, rest-refused, crs-refused, rest-read}
 use Rattle.aps.proofs.lmcs.read_rest.Statement.{statement}

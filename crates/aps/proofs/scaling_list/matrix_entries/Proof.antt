@@ -1,20 +1,21 @@
--- `matrix_entries`: the cases of the definition.
-use borrow.Author.Tests.{lt-ltb, le-ltb}
+-- `matrix_entries`: the size times itself, which is at most 64.
+use borrow.Author.Needs.{needs}
+use native.Mathlib.Omega.{arith}
 use Rattle.aps.specs.ScalingSyntax.{entries}
+use Rattle.aps.proofs.ScalingLaws.{entries-le}
 use Rattle.aps.proofs.scaling_list.matrix_entries.Statement.{statement}
 use Rattle.aps.proofs.scaling_list.matrix_entries.Tie as tie
 
+matrix-size-requires : tie.Need-matrix-size-requires
+matrix-size-requires c κs = search needs
+
+mul-result : tie.Need-mul-result
+unfolding entries
+mul-result c = rw (c .matrix-size .ensures) (omega (arith, entries-le (c .before .args .id)))
+
 returns : tie.Need-returns
 unfolding entries
-returns c = rw (lt-ltb _ _ (c .if1 .taken))
-
-returns-2 : tie.Need-returns-2
-unfolding entries
-returns-2 c = rw (le-ltb _ _ (c .before .if1 .left), lt-ltb _ _ (c .if2 .taken))
-
-returns-3 : tie.Need-returns-3
-unfolding entries
-returns-3 c = rw (le-ltb _ _ (c .before .if1 .left), le-ltb _ _ (c .if2 .left))
+returns c = rw (c .matrix-size .ensures)
 
 pub matrix-entries-spec : {M : Type 1} → statement M
-matrix-entries-spec = tie.close (tie.spec returns returns-2 returns-3)
+matrix-entries-spec = tie.close (tie.spec matrix-size-requires mul-result returns)

@@ -5,7 +5,7 @@ use Prim.Native.Nat.{_+_, _-_, _≤_}
 use native.Mathlib.Omega.{arith}
 use denote.Ref.{now}
 use lib.ListN.{length}
-use Rattle.aps.specs.Stops.{StopsBy}
+use Rattle.aps.specs.Inner.{StopsBy}
 use Rattle.aps_table.specs.Places.{ids, held, largest}
 use Rattle.aps_table.specs.List.{joined, listed, upTo, listAt}
 use Rattle.aps_table.proofs.ListSteps.{largest-most, kind-start, kind-next, kind-done}

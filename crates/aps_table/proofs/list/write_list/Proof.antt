@@ -6,7 +6,7 @@ use native.Mathlib.Omega.{arith}
 use denote.Ref.{now}
 use lib.ListN.{length}
 use lib.Seq.{length-take-le}
-use Rattle.aps_writer.proofs.UnitWrites.{answered-as}
+use Rattle.aps.proofs.UnitWrites.{answered-as}
 use Rattle.aps_table.proofs.ListSteps.{list-refused, list-bytes}
 use Rattle.aps_table.proofs.list.write_list.Statement.{statement}
 use Rattle.aps_table.proofs.list.write_list.Tie as tie
