@@ -9,6 +9,7 @@ use lib.ListN.{length, length-append}
 use borrow.Author.Tests.{leb-true}
 use Rattle.bitstream.specs.Outcome.{value}
 use Rattle.bitstream.specs.Bits.{Holds, AreBits}
+use Rattle.aps.specs.Kinds.{largestId}
 use Rattle.aps.specs.Codec.{Codec, u, _▷_, via, judged, provided, never}
 use Rattle.aps.specs.Elements.{flag}
 use Rattle.aps.specs.AlfSyntax.{alf}
@@ -51,10 +52,10 @@ only-scaling (ofScaling d) t = refl
 -- the payload of each kind is lawful
 pub payload-law : (kind id : ℕ) (chroma : Bool) → Lawful (payload kind id chroma) (payloadBits kind)
 unfolding payload
-payload-law zero id chroma = judged-law (λ p. leb id 7) (via-law ofAlf alfIn isAlf (alf-law chroma) (λ d o. (refl, refl)) (λ p o t. only-alf p t))
-payload-law (suc zero) id chroma = provided-law (leb id 3) (via-law ofLmcs lmcsIn isLmcs (lmcs-law chroma) (λ d o. (refl, refl)) (λ p o t. only-lmcs p t))
+payload-law zero id chroma = judged-law (λ p. leb id (largestId 0)) (via-law ofAlf alfIn isAlf (alf-law chroma) (λ d o. (refl, refl)) (λ p o t. only-alf p t))
+payload-law (suc zero) id chroma = provided-law (leb id (largestId 1)) (via-law ofLmcs lmcsIn isLmcs (lmcs-law chroma) (λ d o. (refl, refl)) (λ p o t. only-lmcs p t))
 payload-law (suc (suc zero)) id chroma =
-    judged-law (λ p. leb id 7) (via-law ofScaling entriesIn isScaling (scalingSyntax-law chroma) (λ d o. (refl, refl)) (λ p o t. only-scaling p t))
+    judged-law (λ p. leb id (largestId 2)) (via-law ofScaling entriesIn isScaling (scalingSyntax-law chroma) (λ d o. (refl, refl)) (λ p o t. only-scaling p t))
 payload-law (suc (suc (suc kind))) id chroma = never-law 3
 
 -- the most of them
@@ -78,13 +79,13 @@ payload-kind : (kind id : ℕ) (chroma : Bool) (p : Payload) → (payload kind i
     → (numberOf (kindOf p) ≡ kind) × (payloadOf (kindOf p) chroma (alfIn p) (lmcsIn p) (scalingIn p) ≡ p)
 unfolding payload judged provided via never
 payload-kind zero id chroma p o =
-    let t = and-right ((alf chroma) .ok (alfIn p)) (isAlf p) (and-left ((alf chroma) .ok (alfIn p) && isAlf p) (leb id 7) o) in
+    let t = and-right ((alf chroma) .ok (alfIn p)) (isAlf p) (and-left ((alf chroma) .ok (alfIn p) && isAlf p) (leb id (largestId 0)) o) in
     rw (← only-alf p t) (refl, refl)
 payload-kind (suc zero) id chroma p o =
-    let t = and-right ((lmcs chroma) .ok (lmcsIn p)) (isLmcs p) (and-right (leb id 3) ((lmcs chroma) .ok (lmcsIn p) && isLmcs p) o) in
+    let t = and-right ((lmcs chroma) .ok (lmcsIn p)) (isLmcs p) (and-right (leb id (largestId 1)) ((lmcs chroma) .ok (lmcsIn p) && isLmcs p) o) in
     rw (← only-lmcs p t) (refl, refl)
 payload-kind (suc (suc zero)) id chroma p o =
-    let r = and-left ((scalingSyntax chroma) .ok (entriesIn p) && isScaling p) (leb id 7) o in
+    let r = and-left ((scalingSyntax chroma) .ok (entriesIn p) && isScaling p) (leb id (largestId 2)) o in
     let t = and-right ((scalingSyntax chroma) .ok (entriesIn p)) (isScaling p) r in
     let l = look-keep chroma (entriesIn p) (and-left ((scalingSyntax chroma) .ok (entriesIn p)) (isScaling p) r) in
     rw (← only-scaling p t) (refl, ap ofScaling l)
@@ -169,20 +170,14 @@ aps-most a o = syntax-most (fromAps a) (and-left (apsSyntax .ok (fromAps a)) tru
 
 -- ---- the id
 
--- the largest id of a kind
-abbrev pub largestId : ApsKind → ℕ
-largestId ApsKind.Alf = 7
-largestId ApsKind.Lmcs = 3
-largestId ApsKind.Scaling = 7
-
-payload-id : (kind : ApsKind) (id : ℕ) (chroma : Bool) (p : Payload) → (payload (numberOf kind) id chroma) .ok p ≡ true → id ≤ largestId kind
+payload-id : (kind : ApsKind) (id : ℕ) (chroma : Bool) (p : Payload) → (payload (numberOf kind) id chroma) .ok p ≡ true → id ≤ largestId (numberOf kind)
 unfolding payload judged provided via
-payload-id ApsKind.Alf id chroma p o = leb-true id 7 (and-right ((alf chroma) .ok (alfIn p) && isAlf p) (leb id 7) o)
-payload-id ApsKind.Lmcs id chroma p o = leb-true id 3 (and-left (leb id 3) ((lmcs chroma) .ok (lmcsIn p) && isLmcs p) o)
-payload-id ApsKind.Scaling id chroma p o = leb-true id 7 (and-right ((scalingSyntax chroma) .ok (entriesIn p) && isScaling p) (leb id 7) o)
+payload-id ApsKind.Alf id chroma p o = leb-true id (largestId 0) (and-right ((alf chroma) .ok (alfIn p) && isAlf p) (leb id (largestId 0)) o)
+payload-id ApsKind.Lmcs id chroma p o = leb-true id (largestId 1) (and-left (leb id (largestId 1)) ((lmcs chroma) .ok (lmcsIn p) && isLmcs p) o)
+payload-id ApsKind.Scaling id chroma p o = leb-true id (largestId 2) (and-right ((scalingSyntax chroma) .ok (entriesIn p) && isScaling p) (leb id (largestId 2)) o)
 
 -- a set that the writer takes has an id of its kind
-pub aps-id : (a : VvcAps) → aps .ok a ≡ true → a .«aps_adaptation_parameter_set_id» ≤ largestId (a .kind)
+pub aps-id : (a : VvcAps) → aps .ok a ≡ true → a .«aps_adaptation_parameter_set_id» ≤ largestId (numberOf (a .kind))
 unfolding aps via fromAps
 aps-id a o =
     payload-id (a .kind) (a .«aps_adaptation_parameter_set_id») (a .«aps_chroma_present_flag») _ (payload-ok (fromAps a) (and-left (apsSyntax .ok (fromAps a)) true o))

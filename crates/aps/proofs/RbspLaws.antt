@@ -18,12 +18,13 @@ use Rattle.bitstream.proofs.RoundTrip.{trailing-holds, trailing-exact}
 use Rattle.bitstream.proofs.LocalLaws.{same-append}
 use Rattle.bitstream.proofs.PackLaws.{length-pack}
 use Rattle.aps.specs.Codec.{via}
+use Rattle.aps.specs.Kinds.{largestId, mostBytes}
 use Rattle.aps.specs.ApsSyntax.{numberOf, aps, inferred}
 use Rattle.aps.specs.Rbsp.{closed, readRbsp, rbspBits, rbspBytes}
 use Rattle.aps.specs.declared.aps.ApsKind.{ApsKind}
 use Rattle.aps.specs.declared.aps.VvcAps.{VvcAps}
 use Rattle.aps.proofs.CodecLaws.{then-value}
-use Rattle.aps.proofs.ApsLaws.{payloadBits, largestId, aps-sound, aps-exact, aps-back, aps-bits, aps-most, aps-id, inferred-kept, inferred-flag}
+use Rattle.aps.proofs.ApsLaws.{payloadBits, aps-sound, aps-exact, aps-back, aps-bits, aps-most, aps-id, inferred-kept, inferred-flag}
 use Rattle.aps.proofs.ExtensionLaws.{aps-whole}
 use Rattle.aps.proofs.PackLaws.{pack-holds, pack-bytes, pack-is}
 
@@ -81,7 +82,7 @@ module _ (s : List ℕ) where
       (o, f)
 
   -- a set that is read has an id of its kind
-  pub rbsp-id : (a : VvcAps) (q : ℕ) → readRbsp s ≡ value a q → a .«aps_adaptation_parameter_set_id» ≤ largestId (a .kind)
+  pub rbsp-id : (a : VvcAps) (q : ℕ) → readRbsp s ≡ value a q → a .«aps_adaptation_parameter_set_id» ≤ largestId (numberOf (a .kind))
   rbsp-id a q e = aps-id a (rbsp-sound a q e .0)
 
   -- the set, closed
@@ -181,18 +182,13 @@ module _ (s : List ℕ) (a : VvcAps) (q : ℕ) (e : readRbsp s ≡ value a q) wh
       pack-is (rbspBits a) (bits-rbsp a (rbsp-sound s a q e .0)) s (q / 8) y (rw f at h) (omega (arith, rw f at n, length-rbsp a)) (omega (arith, rbsp-end))
 
 -- the most bytes that a set of each kind takes
-abbrev pub mostBytes : ApsKind → ℕ
-mostBytes ApsKind.Alf = 832
-mostBytes ApsKind.Lmcs = 37
-mostBytes ApsKind.Scaling = 2931
-
-most-bytes : (k : ApsKind) (n m : ℕ) → n ≤ 10 + payloadBits (numberOf k) → m ≤ n + (8 - n % 8) → m ≤ 8 * mostBytes k
+most-bytes : (k : ApsKind) (n m : ℕ) → n ≤ 10 + payloadBits (numberOf k) → m ≤ n + (8 - n % 8) → m ≤ 8 * mostBytes (numberOf k)
 most-bytes ApsKind.Alf n m h l = omega arith
 most-bytes ApsKind.Lmcs n m h l = omega arith
 most-bytes ApsKind.Scaling n m h l = omega arith
 
 -- a set that is read ends within the most bytes of its kind
-pub read-most : (s : List ℕ) (a : VvcAps) (q : ℕ) → readRbsp s ≡ value a q → q ≤ 8 * mostBytes (a .kind)
+pub read-most : (s : List ℕ) (a : VvcAps) (q : ℕ) → readRbsp s ≡ value a q → q ≤ 8 * mostBytes (numberOf (a .kind))
 read-most s a q e = most-bytes (a .kind) (length (aps .emit a)) q (aps-most a (rbsp-sound s a q e .0)) (go (a .«aps_extension_flag») refl)
   where
     go : (b : Bool) → a .«aps_extension_flag» ≡ b → q ≤ length (aps .emit a) + (8 - length (aps .emit a) % 8)
@@ -228,7 +224,7 @@ module _ (a : VvcAps) (o : aps .ok a ≡ true) where
   rbsp-some = omega (arith, length-bytes, length-rbsp a)
 
   -- and at most 832, 37 and 2,931 by kind
-  pub rbsp-most : length (rbspBytes a) ≤ mostBytes (a .kind)
+  pub rbsp-most : length (rbspBytes a) ≤ mostBytes (numberOf (a .kind))
   rbsp-most = omega (arith, length-bytes, most-bytes (a .kind) (length (aps .emit a)) (length (rbspBits a)) (aps-most a o) (omega (arith, length-rbsp a)))
 
   -- the stop bit

@@ -11,6 +11,7 @@ use Rattle.bitstream.specs.Outcome.{Outcome, value, refused, number, mapOutcome
 use Rattle.bitstream.specs.declared.Refusal.{Refusal}
 use Rattle.bitstream.specs.Bits.{fieldAt}
 use Rattle.bitstream.specs.Fields.{readU}
+use Rattle.aps.specs.Kinds.{largestId}
 use Rattle.aps.specs.Codec.{u, _▷_, via, judged, provided, never}
 use Rattle.aps.specs.Elements.{flag}
 use Rattle.aps.specs.AlfSyntax.{alf}
@@ -112,24 +113,24 @@ module _ (s : List ℕ) (id : ℕ) (chroma : Bool) where
     module _ (d : VvcAlfData) (q : ℕ) (e : (alf chroma) .read s 9 ≡ value d q) where
       pub alf-id : 7 < id → readRbsp s ≡ refused 2
       unfolding payload judged via
-      alf-id h = headed-payload 0 H ∙ rw (e, lt-leb id 7 h)
+      alf-id h = headed-payload 0 H ∙ rw (e, lt-leb id (largestId 0) h)
 
       pub alf-set : id ≤ 7 → readRbsp s ≡ finished s (setOf ApsKind.Alf id chroma d zeroLmcs zeroScaling) q
       unfolding payload judged via
-      alf-set h = headed-payload 0 H ∙ rw (e, le-leb id 7 h)
+      alf-set h = headed-payload 0 H ∙ rw (e, le-leb id (largestId 0) h)
 
   module _ (H : Headed s 1 id chroma) where
     pub lmcs-id : 3 < id → readRbsp s ≡ refused 2
     unfolding payload provided
-    lmcs-id h = headed-payload 1 H ∙ rw (lt-leb id 3 h)
+    lmcs-id h = headed-payload 1 H ∙ rw (lt-leb id (largestId 1) h)
 
     pub lmcs-refused : id ≤ 3 → (n : ℕ) → (lmcs chroma) .read s 9 ≡ refused n → readRbsp s ≡ refused n
     unfolding payload provided via
-    lmcs-refused h n e = headed-payload 1 H ∙ rw (le-leb id 3 h, e)
+    lmcs-refused h n e = headed-payload 1 H ∙ rw (le-leb id (largestId 1) h, e)
 
     pub lmcs-set : id ≤ 3 → (d : VvcLmcsData) (q : ℕ) → (lmcs chroma) .read s 9 ≡ value d q → readRbsp s ≡ finished s (setOf ApsKind.Lmcs id chroma zeroAlf d zeroScaling) q
     unfolding payload provided via
-    lmcs-set h d q e = headed-payload 1 H ∙ rw (le-leb id 3 h, e)
+    lmcs-set h d q e = headed-payload 1 H ∙ rw (le-leb id (largestId 1) h, e)
 
   module _ (H : Headed s 2 id chroma) where
     pub scaling-refused : (n : ℕ) → mapOutcome keep ((scalingSyntax chroma) .read s 9) ≡ refused n → readRbsp s ≡ refused n
@@ -137,7 +138,7 @@ module _ (s : List ℕ) (id : ℕ) (chroma : Bool) where
     scaling-refused n e = headed-payload 2 H ∙ go ((scalingSyntax chroma) .read s 9) e
       where
         go : (o : Outcome (List Entry)) → mapOutcome keep o ≡ refused n
-            → (((o then λ a q. value (ofScaling a) q) then λ a q. cond (leb id 7) (value a q) (refused 2)) then λ d q. finished s (setWith id chroma d) q) ≡ refused n
+            → (((o then λ a q. value (ofScaling a) q) then λ a q. cond (leb id (largestId 2)) (value a q) (refused 2)) then λ d q. finished s (setWith id chroma d) q) ≡ refused n
         go (value es q) e = let z : _≡_ {A = ℕ} 0 1 = cc in absurd (omega arith)
         go (refused m) e = let f : m ≡ n = cc in ap refused f
 
@@ -151,11 +152,11 @@ module _ (s : List ℕ) (id : ℕ) (chroma : Bool) where
 
       pub scaling-id : 7 < id → readRbsp s ≡ refused 2
       unfolding payload judged via
-      scaling-id h = headed-payload 2 H ∙ kept ((scalingSyntax chroma) .read s 9) e (leb id 7) ∙ rw (lt-leb id 7 h)
+      scaling-id h = headed-payload 2 H ∙ kept ((scalingSyntax chroma) .read s 9) e (leb id (largestId 2)) ∙ rw (lt-leb id (largestId 2) h)
 
       pub scaling-set : id ≤ 7 → readRbsp s ≡ finished s (setOf ApsKind.Scaling id chroma zeroAlf zeroLmcs d) q
       unfolding payload judged via
-      scaling-set h = headed-payload 2 H ∙ kept ((scalingSyntax chroma) .read s 9) e (leb id 7) ∙ rw (le-leb id 7 h)
+      scaling-set h = headed-payload 2 H ∙ kept ((scalingSyntax chroma) .read s 9) e (leb id (largestId 2)) ∙ rw (le-leb id (largestId 2) h)
 
   pub other-kind : (k : ℕ) → Headed s k id chroma → 2 < k → readRbsp s ≡ refused 3
   other-kind k H h = headed-payload k H ∙ go k h

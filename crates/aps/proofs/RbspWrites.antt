@@ -17,6 +17,7 @@ use Rattle.bitstream.proofs.CodeLaws.{value-refused}
 use Rattle.bitstream.proofs.WriteLaws.{puts-append, due-some, put-fits, length-trailing}
 use Rattle.bitstream.proofs.KeepLaws.{length-puts}
 use Rattle.bitstream.proofs.PackLaws.{length-pack, puts-pack}
+use Rattle.aps.specs.Kinds.{largestId}
 use Rattle.aps.specs.Codec.{u, _▷_, via, judged, provided}
 use Rattle.aps.specs.Elements.{flag}
 use Rattle.aps.specs.AlfSyntax.{alf}
@@ -41,34 +42,34 @@ use Rattle.aps.proofs.WriteSteps.{writes-via, wrote-as, wrote-▷, wrot
 module _ (id : ℕ) (chroma : Bool) where
   pub alf-id-wide : (d : VvcAlfData) → 7 < id → (payload 0 id chroma) .ok (ofAlf d) ≡ false
   unfolding payload judged
-  alf-id-wide d h = rw (lt-leb id 7 h) (and-false ((via ofAlf alfIn isAlf (alf chroma)) .ok (ofAlf d)))
+  alf-id-wide d h = rw (lt-leb id (largestId 0) h) (and-false ((via ofAlf alfIn isAlf (alf chroma)) .ok (ofAlf d)))
 
   pub lmcs-id-wide : (d : VvcLmcsData) → 3 < id → (payload 1 id chroma) .ok (ofLmcs d) ≡ false
   unfolding payload provided
-  lmcs-id-wide d h = rw (lt-leb id 3 h)
+  lmcs-id-wide d h = rw (lt-leb id (largestId 1) h)
 
   pub scaling-id-wide : (l : List Entry) → 7 < id → (payload 2 id chroma) .ok (ofScaling l) ≡ false
   unfolding payload judged
-  scaling-id-wide l h = rw (lt-leb id 7 h) (and-false ((via ofScaling entriesIn isScaling (scalingSyntax chroma)) .ok (ofScaling l)))
+  scaling-id-wide l h = rw (lt-leb id (largestId 2) h) (and-false ((via ofScaling entriesIn isScaling (scalingSyntax chroma)) .ok (ofScaling l)))
 
   -- the payload of a kind is what the kind's description writes
   module _ {from to : Stop} {out out′ : List ℕ} where
     pub alf-payload : (d : VvcAlfData) → id ≤ 7 → Wrote (alf chroma) d 7410 from to out out′ → Wrote (payload 0 id chroma) (ofAlf d) 31248 from to out out′
     unfolding payload
     alf-payload d h w =
-        wrote-judged (via ofAlf alfIn isAlf (alf chroma)) (ofAlf d) 31248 (λ p. leb id 7) (le-leb id 7 h)
+        wrote-judged (via ofAlf alfIn isAlf (alf chroma)) (ofAlf d) 31248 (λ p. leb id (largestId 0)) (le-leb id (largestId 0) h)
         (wrote-via ofAlf alfIn isAlf (alf chroma) (ofAlf d) 31248 refl (wrote-more (alf chroma) d 7410 31248 (omega arith) w))
 
     pub lmcs-payload : (d : VvcLmcsData) → id ≤ 3 → Wrote (lmcs chroma) d 285 from to out out′ → Wrote (payload 1 id chroma) (ofLmcs d) 31248 from to out out′
     unfolding payload
     lmcs-payload d h w =
-        wrote-provided (via ofLmcs lmcsIn isLmcs (lmcs chroma)) (ofLmcs d) 31248 (leb id 3) (le-leb id 3 h)
+        wrote-provided (via ofLmcs lmcsIn isLmcs (lmcs chroma)) (ofLmcs d) 31248 (leb id (largestId 1)) (le-leb id (largestId 1) h)
         (wrote-via ofLmcs lmcsIn isLmcs (lmcs chroma) (ofLmcs d) 31248 refl (wrote-more (lmcs chroma) d 285 31248 (omega arith) w))
 
     pub scaling-payload : (l : List Entry) → id ≤ 7 → Wrote (scalingSyntax chroma) l 31248 from to out out′ → Wrote (payload 2 id chroma) (ofScaling l) 31248 from to out out′
     unfolding payload
     scaling-payload l h w =
-        wrote-judged (via ofScaling entriesIn isScaling (scalingSyntax chroma)) (ofScaling l) 31248 (λ p. leb id 7) (le-leb id 7 h)
+        wrote-judged (via ofScaling entriesIn isScaling (scalingSyntax chroma)) (ofScaling l) 31248 (λ p. leb id (largestId 2)) (le-leb id (largestId 2) h)
         (wrote-via ofScaling entriesIn isScaling (scalingSyntax chroma) (ofScaling l) 31248 refl w)
 
 -- ---- the set

@@ -13,19 +13,20 @@ use Rattle.bitstream.specs.Escapes.{escape, putBytes}
 use Rattle.bitstream.proofs.CodeLaws.{value-refused}
 use Rattle.bitstream.proofs.KeepLaws.{Bytes}
 use Rattle.bitstream.proofs.EscapeLaws.{unescape-of-escape, escape-most}
-use Rattle.aps.specs.ApsSyntax.{aps, inferred}
+use Rattle.aps.specs.Kinds.{mostBytes}
+use Rattle.aps.specs.ApsSyntax.{numberOf, aps, inferred}
 use Rattle.aps.specs.Rbsp.{readRbsp, parseApsRbsp, rbspBytes}
 use Rattle.aps.specs.Unit.{isAps, rbspOf, admitted, parseAps}
 use Rattle.aps.specs.Writing.{bytesDue, writeAps, unitOf, writeApsNal}
 use Rattle.aps.specs.declared.aps.ApsKind.{ApsKind}
 use Rattle.aps.specs.declared.aps.VvcAps.{VvcAps}
 use Rattle.aps.proofs.RbspSteps.{in-limits}
-use Rattle.aps.proofs.RbspLaws.{mostBytes, rbsp-sound, read-write, write-read, rbsp-some, rbsp-most, rbsp-last}
+use Rattle.aps.proofs.RbspLaws.{rbsp-sound, read-write, write-read, rbsp-some, rbsp-most, rbsp-last}
 use Rattle.aps.proofs.RbspWrites.{due-taken, taken-due}
 use Rattle.aps.proofs.UnitWrites.{put-value}
 
 -- the sets of each kind have at most 2931 bytes
-most-le : (k : ApsKind) → mostBytes k ≤ 2931
+most-le : (k : ApsKind) → mostBytes (numberOf k) ≤ 2931
 most-le ApsKind.Alf = lit≤ tt
 most-le ApsKind.Lmcs = lit≤ tt
 most-le ApsKind.Scaling = lit≤ tt
@@ -102,7 +103,7 @@ module _ (a : VvcAps) (out after : List ℕ) (n : ℕ) where
         rw (t, m) (in-limits (rbspBytes a) l ∙ ap readRbsp (sym (append-nil (rbspBytes a))) ∙ write-read a o x [])
 
     -- it is not empty and has at most 832, 37 or 2,931 bytes by its kind
-    pub written-length : (0 < n) × (n ≤ mostBytes (a .kind))
+    pub written-length : (0 < n) × (n ≤ mostBytes (numberOf (a .kind)))
     written-length =
         let (x, o, m, t) = wrote in
         (omega (arith, m, rbsp-some a o), omega (arith, m, rbsp-most a o))

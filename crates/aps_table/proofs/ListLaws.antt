@@ -12,12 +12,13 @@ use lib.Dec.{eqb}
 use lib.ListN.{length}
 use Rattle.bitstream.specs.Outcome.{Outcome, value, refused, _then_}
 use Rattle.bitstream.proofs.EscapeLaws.{escape-most}
+use Rattle.aps.specs.Kinds.{mostBytes}
 use Rattle.aps.specs.ApsSyntax.{numberOf, aps}
 use Rattle.aps.specs.Rbsp.{readRbsp, rbspBytes}
 use Rattle.aps.specs.declared.aps.ApsKind.{ApsKind}
 use Rattle.aps.specs.declared.aps.VvcAps.{VvcAps}
 use Rattle.aps.proofs.CodecLaws.{then-value}
-use Rattle.aps.proofs.RbspLaws.{mostBytes, rbsp-sound, rbsp-most}
+use Rattle.aps.proofs.RbspLaws.{rbsp-sound, rbsp-most}
 use Rattle.aps.specs.Writing.{bytesDue, unitOf}
 use Rattle.aps.proofs.RbspWrites.{due-taken, taken-due}
 use Rattle.aps_table.specs.Places.{Entries, ids, names, kindIn, idIn, extended, placeBytes, under, held}
@@ -128,14 +129,14 @@ listed-due t = go (anyExtended names (held t)) refl
 -- ---- the most bytes
 
 -- of a unit
-pub unit-most : (a : VvcAps) (l : List ℕ) (n : ℕ) → bytesDue a ≡ value l n → length (unitOf 17 l) ≤ 2 + mostBytes (a .kind) * 3 / 2
+pub unit-most : (a : VvcAps) (l : List ℕ) (n : ℕ) → bytesDue a ≡ value l n → length (unitOf 17 l) ≤ 2 + mostBytes (numberOf (a .kind)) * 3 / 2
 unfolding unitOf
 unit-most a l n e =
     let (x, o, w, m) = taken-due a l n e in
     omega (arith, escape-most l, rbsp-most a o, ap length w)
 
 -- of an entry
-pub entry-most : (a : VvcAps) (l : List ℕ) (n : ℕ) → entryDue a ≡ value l n → n ≤ 6 + mostBytes (a .kind) * 3 / 2
+pub entry-most : (a : VvcAps) (l : List ℕ) (n : ℕ) → entryDue a ≡ value l n → n ≤ 6 + mostBytes (numberOf (a .kind)) * 3 / 2
 unfolding entryDue
 entry-most a l n e =
     let (k, m, d, w) = then-value (bytesDue a) (λ bytes n. value (coded bytes) (length (coded bytes))) e in
@@ -147,7 +148,7 @@ pub entry-fits : (a : VvcAps) (l : List ℕ) (n i p : ℕ) → entryDue a ≡ va
 unfolding kindIn
 entry-fits a l n i p e h = go (a .kind) (entry-most a l n e) h
   where
-    go : (k : ApsKind) → n ≤ 6 + mostBytes k * 3 / 2 → p ≤ listAt (numberOf k) i → p + n ≤ listAt (numberOf k) (i + 1)
+    go : (k : ApsKind) → n ≤ 6 + mostBytes (numberOf k) * 3 / 2 → p ≤ listAt (numberOf k) i → p + n ≤ listAt (numberOf k) (i + 1)
     go ApsKind.Alf m h = omega arith
     go ApsKind.Lmcs m h = omega arith
     go ApsKind.Scaling m h = omega arith

@@ -11,12 +11,12 @@ use lib.Dec.{eqb, leb}
 use lib.ListN.{length, getD, set, take, drop, replicate, length-take, List·getD-eq-default, length-replicate}
 use lib.Seq.{sets, sets-eq, take-set-le, drop-set-lt, drop-set-add, drop-at, take-at, length-take-le, getD-take, getD-drop}
 use Rattle.bitstream.specs.Outcome.{Outcome, value, refused}
+use Rattle.aps.specs.Kinds.{largestId, mostBytes}
 use Rattle.aps.specs.ApsSyntax.{numberOf}
 use Rattle.aps.specs.Rbsp.{readRbsp}
 use Rattle.aps.specs.declared.aps.ApsKind.{ApsKind}
 use Rattle.aps.specs.declared.aps.VvcAps.{VvcAps}
-use Rattle.aps.proofs.ApsLaws.{largestId}
-use Rattle.aps.proofs.RbspLaws.{mostBytes, rbsp-id, rbsp-end, read-most}
+use Rattle.aps.proofs.RbspLaws.{rbsp-id, rbsp-end, read-most}
 use Rattle.aps.proofs.LocalLaws.{zeros-none, rbsp-copy}
 use Rattle.aps_table.specs.Places.{Names, placeSize, placeAt, placeBytes, newTable, kindIn, idIn, under, held}
 use Rattle.aps_table.specs.Book.{replace}
@@ -108,12 +108,12 @@ place-own t bytes k i m e h n l =
 -- ---- sets
 
 -- a set that was read names a place, and its bytes fit there
-kind-names : (k : ApsKind) (i : ℕ) → i ≤ largestId k → Names (numberOf k) i
+kind-names : (k : ApsKind) (i : ℕ) → i ≤ largestId (numberOf k) → Names (numberOf k) i
 kind-names ApsKind.Alf i h = (omega arith, omega arith)
 kind-names ApsKind.Lmcs i h = (omega arith, omega arith)
 kind-names ApsKind.Scaling i h = (omega arith, omega arith)
 
-kind-size : (k : ApsKind) → mostBytes k ≡ placeSize (numberOf k)
+kind-size : (k : ApsKind) → mostBytes (numberOf k) ≡ placeSize (numberOf k)
 kind-size ApsKind.Alf = refl
 kind-size ApsKind.Lmcs = refl
 kind-size ApsKind.Scaling = refl

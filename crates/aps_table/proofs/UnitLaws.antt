@@ -9,12 +9,13 @@ use lib.ListN.{length}
 use Rattle.bitstream.specs.Outcome.{Outcome, value, refused, _then_}
 use Rattle.bitstream.specs.Escapes.{escape, zerosAtEnd, Clean}
 use Rattle.bitstream.proofs.EscapeLaws.{none-at-end, escape-clean, escape-trailing}
+use Rattle.aps.specs.Kinds.{mostBytes}
 use Rattle.aps.specs.ApsSyntax.{numberOf, aps, inferred}
 use Rattle.aps.specs.Rbsp.{readRbsp, rbspBytes}
 use Rattle.aps.specs.Unit.{rbspOf, admitted, parseAps}
 use Rattle.aps.specs.declared.aps.ApsKind.{ApsKind}
 use Rattle.aps.specs.declared.aps.VvcAps.{VvcAps}
-use Rattle.aps.proofs.RbspLaws.{mostBytes, rbsp-sound, write-read, rbsp-some, rbsp-last}
+use Rattle.aps.proofs.RbspLaws.{rbsp-sound, write-read, rbsp-some, rbsp-last}
 use Rattle.aps.specs.Writing.{unitOf}
 use Rattle.aps.proofs.RoundTrips.{unit-parsed}
 use Rattle.aps_table.specs.Places.{kindIn, extended}
@@ -40,7 +41,7 @@ entryMost zero = 1254
 entryMost (suc zero) = 61
 entryMost (suc (suc k)) = 4402
 
-kind-most : (k : ApsKind) (n : ℕ) → n ≤ 6 + mostBytes k * 3 / 2 → n ≤ entryMost (numberOf k)
+kind-most : (k : ApsKind) (n : ℕ) → n ≤ 6 + mostBytes (numberOf k) * 3 / 2 → n ≤ entryMost (numberOf k)
 kind-most ApsKind.Alf n h = omega arith
 kind-most ApsKind.Lmcs n h = omega arith
 kind-most ApsKind.Scaling n h = omega arith
