@@ -125,11 +125,6 @@ module _ (s : List ℕ) (p : ℕ) where
       let (l, o) = apsSyntax-law .sound s p (fromAps a) q ex in
       (l, rw o, f)
 
-  -- even past the end no more bits are read than are written for the set
-  pub aps-short : (a : VvcAps) (q : ℕ) → aps .read s p ≡ value a q → q ≤ p + length (aps .emit a)
-  unfolding aps via
-  aps-short a q e = apsSyntax-law .short s p (fromAps a) q (aps-value a q e .0)
-
   -- a set that is read before the end stands there as it is written
   pub aps-exact : (a : VvcAps) (q : ℕ) → aps .read s p ≡ value a q → q < length s * 8 → Holds s p (aps .emit a) × (q ≡ p + length (aps .emit a))
   unfolding aps via
@@ -183,11 +178,6 @@ aps-id a o =
     payload-id (a .kind) (a .«aps_adaptation_parameter_set_id») (a .«aps_chroma_present_flag») _ (payload-ok (fromAps a) (and-left (apsSyntax .ok (fromAps a)) true o))
 
 -- ---- what is inferred
-
--- what is inferred changes nothing that is written
-pub inferred-kept : (a : VvcAps) → aps .ok a ≡ true → fromAps (inferred a) ≡ fromAps a
-unfolding aps via inferred
-inferred-kept a o = from-to (fromAps a) (and-left (apsSyntax .ok (fromAps a)) true o)
 
 -- nor the extension flag
 pub inferred-flag : (a : VvcAps) → (inferred a) .«aps_extension_flag» ≡ a .«aps_extension_flag»

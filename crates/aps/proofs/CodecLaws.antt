@@ -212,10 +212,6 @@ module _ {A : Type 0} where
   pub most-law : {c : Codec A} {m m′ : ℕ} → m ≤ m′ → Lawful c m → Lawful c m′
   most-law {m′ = m′} h C = bound-law m′ (λ a o. omega (arith, C .most a o)) C
 
-  -- reading, even past the end, ends within the bound
-  pub ends-by : {c : Codec A} {m : ℕ} → Lawful c m → (s : List ℕ) (p : ℕ) (a : A) (q : ℕ) → c .read s p ≡ value a q → q ≤ p + m
-  ends-by C s p a q e = omega (arith, C .short s p a q e, C .most a (C .sound s p a q e .1))
-
 -- ---- the same values in another shape
 
 module _ {A B : Type 0} (to : A → B) (from : B → A) (test : B → Bool) {c : Codec A} {m : ℕ} (C : Lawful c m) where

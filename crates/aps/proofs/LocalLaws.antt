@@ -1,5 +1,5 @@
 -- What is read depends only on the bits before the end that is reported.
-use mathlib.Core.Path.{_≡_, refl, sym, ap, _∙_}
+use mathlib.Core.Path.{_≡_, refl, sym, _∙_}
 use mathlib.Core.Bool.{Bool, true, false}
 use mathlib.Core.List.{List, _++_}
 use Prim.Native.Nat.{ℕ, _+_, _-_, _*_, _/_, _%_, _^_, _≤_, _<_}
@@ -14,19 +14,10 @@ use Rattle.bitstream.proofs.WriteLaws.{length-trailing}
 use Rattle.bitstream.proofs.HoldLaws.{Same, holds-first, holds-same}
 use Rattle.bitstream.proofs.RoundTrip.{trailing-exact}
 use Rattle.bitstream.proofs.LocalLaws.{same-append}
-use Rattle.aps.specs.Codec.{Codec}
 use Rattle.aps.specs.Rbsp.{readRbsp}
 use Rattle.aps.specs.declared.aps.VvcAps.{VvcAps}
-use Rattle.aps.proofs.Lawful.{Lawful}
 use Rattle.aps.proofs.ExtensionLaws.{aps-whole, aps-last}
 use Rattle.aps.proofs.RbspLaws.{rbsp-extended, rbsp-plain, rbsp-sound, rbsp-end, setBits, read-stands, stands-read}
-
--- what a lawful codec reads before the end of s is read in t too, where the bits up to its end are the same
-pub law-local : {A : Type 0} {c : Codec A} {m : ℕ} → Lawful c m → (s t : List ℕ) (p : ℕ) (a : A) (q : ℕ) → c .read s p ≡ value a q → q < length s * 8
-    → q ≤ length t * 8 → Same s t p q → c .read t p ≡ value a q
-law-local {c = c} C s t p a q e l l′ h =
-    let (k, n) = C .exact s p a q e l in
-    C .back t p a (C .sound s p a q e .1) (holds-same s t p (c .emit a) (omega arith) (rw n at h) k) ∙ ap (value a) (sym n)
 
 -- bytes that are the same have the same bits
 pub same-bytes : (s t : List ℕ) (q : ℕ) → ((i : ℕ) → i * 8 < q → getD t i 0 ≡ getD s i 0) → Same s t 0 q

@@ -1,4 +1,4 @@
--- Document 01's marked bytes: one list, one proof over it. Each row has the bytes or the set, and what they are read as, written as or escaped to.
+-- Document 01's marked bytes: one list, one proof over it. Each row has the bytes or the set, and what the call's definition makes of them.
 use mathlib.Core.Path.{_≡_, refl}
 use mathlib.Core.Bool.{Bool, true, false}
 use mathlib.Core.List.{List, [], _∷_, map}
@@ -9,14 +9,14 @@ use lib.ListN.{replicate}
 use Rattle.bitstream.specs.Outcome.{Outcome, value, refused}
 use Rattle.bitstream.specs.Bits.{bitAt, fieldAt, fieldBits, putInByte, putBit, putBits, pack}
 use Rattle.bitstream.specs.Fields.{readU, zeroAt, zerosAt, suffixAt, ueValue, ueFrom, readUe, ueZeros, ueBits, seValue, seCode, trailingValue, trailingWidth, trailingBits, readTrailing}
-use Rattle.bitstream.specs.Escapes.{escape, escapeFrom, putBytes}
+use Rattle.bitstream.specs.Escapes.{escapeFrom, unescapeFrom, putBytes, ebspToRbsp, rbspToEbsp}
 use Rattle.aps.specs.Codec.{u, ue, _▷_, via, judged, when, eachFrom, provided, never}
 use Rattle.aps.specs.Elements.{flag, ueTo, se, seIn, signed, apart, flat}
 use Rattle.aps.specs.LmcsSyntax.{inRange, lmcsSyntax, toLmcs, fromLmcs, lmcs}
 use Rattle.aps.specs.AlfSyntax.{ceilLog2, coefficient, lumaSyntax, toLuma, fromLuma, luma, alternative, chromaSyntax, toChroma, fromChroma, chroma, ccSyntax, toCc, fromCc, cc, alfSyntax, toAlf, fromAlf, alf}
 use Rattle.aps.specs.ScalingSyntax.{diagNext, diagScan, skipped, matrixSize, entries, maxIdDelta, idCoded, step, sums, coefficients, entrySyntax, scalingSyntax, filled, keep, looked, look}
 use Rattle.aps.specs.ApsSyntax.{zeroAlf, zeroLmcs, zeroScaling, payload, apsSyntax, toAps, fromAps, aps}
-use Rattle.aps.specs.Rbsp.{closed, readRbsp, rbspBits, rbspBytes}
+use Rattle.aps.specs.Rbsp.{closed, readRbsp, parseApsRbsp, rbspBits, rbspBytes}
 use Rattle.aps.specs.Writing.{bytesDue, writeAps}
 use Rattle.aps.specs.declared.aps.ApsKind.{ApsKind}
 use Rattle.aps.specs.declared.aps.VvcAps.{VvcAps}
@@ -76,19 +76,25 @@ copies =
           };
     }
 
--- what an RBSP is read as, what a set is written as into an output, or what bytes are escaped to
+-- what an RBSP is read as, what a set is written as into an output, and what bytes come to with escapes put in or removed
 pub data Row : Type 0 where
   reads : List ℕ → Outcome VvcAps → Row
   writes : VvcAps → List ℕ → Outcome (List ℕ) → Row
-  escapes : List ℕ → List ℕ → Row
+  escapes : List ℕ → List ℕ → Outcome (List ℕ) → Row
+  unescapes : List ℕ → List ℕ → Outcome (List ℕ) → Row
 
--- the row with what the definitions give as its last part
-abbrev pub given : Row → Row
-given (reads s o) = reads s (readRbsp s)
-given (writes a out o) = writes a out (writeAps a out)
-given (escapes s t) = escapes s (escape s)
+-- the row with what the calls' own definitions give as its last part
+abbrev pub computed : Row → Row
+computed (reads s o) = reads s (parseApsRbsp s)
+computed (writes a out o) = writes a out (writeAps a out)
+computed (escapes s out o) = escapes s out (rbspToEbsp s out)
+computed (unescapes s out o) = unescapes s out (ebspToRbsp s out)
 
--- document 01, 'Marked bytes'
+-- an output of four bytes
+abbrev pub four : List ℕ
+four = 0xAA ∷ 0xAA ∷ 0xAA ∷ 0xAA ∷ []
+
+-- document 01, 'Marked bytes', with some more that are written and escaped
 unfoldable pub rows : List Row
 rows =
     reads [] (refused 1)
@@ -109,11 +115,15 @@ rows =
     ∷ writes (noAlf true false) (0xAA ∷ 0xAA ∷ []) (value (0x00 ∷ 0x82 ∷ []) 2)
     ∷ writes oneBin (0xAA ∷ 0xAA ∷ 0xAA ∷ []) (value (0x20 ∷ 0x42 ∷ 0x12 ∷ []) 3)
     ∷ writes copies (0xAA ∷ 0xAA ∷ 0xAA ∷ 0xAA ∷ []) (value (0x40 ∷ 0x7F ∷ 0xFF ∷ 0xE8 ∷ []) 4)
-    ∷ escapes (0x00 ∷ 0x00 ∷ 0x01 ∷ []) (0x00 ∷ 0x00 ∷ 0x03 ∷ 0x01 ∷ [])
-    ∷ escapes (0x00 ∷ 0x00 ∷ 0x00 ∷ []) (0x00 ∷ 0x00 ∷ 0x03 ∷ 0x00 ∷ [])
+    ∷ escapes (0x00 ∷ 0x00 ∷ 0x01 ∷ []) four (value (0x00 ∷ 0x00 ∷ 0x03 ∷ 0x01 ∷ []) 4)
+    ∷ escapes (0x00 ∷ 0x00 ∷ 0x00 ∷ []) four (value (0x00 ∷ 0x00 ∷ 0x03 ∷ 0x00 ∷ []) 4)
+    ∷ escapes (0x00 ∷ 0x00 ∷ []) four (value (0x00 ∷ 0x00 ∷ 0x03 ∷ 0xAA ∷ []) 3)
+    ∷ unescapes (0x00 ∷ 0x00 ∷ 0x03 ∷ 0x01 ∷ []) four (value (0x00 ∷ 0x00 ∷ 0x01 ∷ 0xAA ∷ []) 3)
+    ∷ unescapes (0x00 ∷ 0x00 ∷ 0x03 ∷ []) four (value (0x00 ∷ 0x00 ∷ 0xAA ∷ 0xAA ∷ []) 2)
+    ∷ unescapes (0x00 ∷ 0x00 ∷ 0x00 ∷ 0x03 ∷ 0x03 ∷ []) four (value (0x00 ∷ 0x00 ∷ 0x00 ∷ 0x03 ∷ []) 4)
     ∷ []
 
 -- each row is as the definitions give it
-pub marked-rows : map given rows ≡ rows
-unfolding rows bitAt fieldAt fieldBits putInByte putBit putBits pack readU zeroAt zerosAt suffixAt ueValue ueFrom readUe ueZeros ueBits seValue seCode trailingValue trailingWidth trailingBits readTrailing escapeFrom putBytes leadingZeros u ue _▷_ via judged when eachFrom provided never flag ueTo se seIn signed apart flat inRange lmcsSyntax toLmcs fromLmcs lmcs ceilLog2 coefficient lumaSyntax toLuma fromLuma luma alternative chromaSyntax toChroma fromChroma chroma ccSyntax toCc fromCc cc alfSyntax toAlf fromAlf alf diagNext diagScan skipped matrixSize entries maxIdDelta idCoded step sums coefficients entrySyntax scalingSyntax filled keep looked look zeroAlf zeroLmcs zeroScaling payload apsSyntax toAps fromAps aps closed readRbsp rbspBits rbspBytes bytesDue writeAps
+pub marked-rows : map computed rows ≡ rows
+unfolding rows bitAt fieldAt fieldBits putInByte putBit putBits pack readU zeroAt zerosAt suffixAt ueValue ueFrom readUe ueZeros ueBits seValue seCode trailingValue trailingWidth trailingBits readTrailing escapeFrom unescapeFrom putBytes ebspToRbsp rbspToEbsp leadingZeros u ue _▷_ via judged when eachFrom provided never flag ueTo se seIn signed apart flat inRange lmcsSyntax toLmcs fromLmcs lmcs ceilLog2 coefficient lumaSyntax toLuma fromLuma luma alternative chromaSyntax toChroma fromChroma chroma ccSyntax toCc fromCc cc alfSyntax toAlf fromAlf alf diagNext diagScan skipped matrixSize entries maxIdDelta idCoded step sums coefficients entrySyntax scalingSyntax filled keep looked look zeroAlf zeroLmcs zeroScaling payload apsSyntax toAps fromAps aps closed readRbsp parseApsRbsp rbspBits rbspBytes bytesDue writeAps
 marked-rows = refl

@@ -17,16 +17,15 @@ use Rattle.bitstream.proofs.HoldLaws.{bits-append, bits-trailing, holds-append,
 use Rattle.bitstream.proofs.RoundTrip.{trailing-holds, trailing-exact}
 use Rattle.bitstream.proofs.LocalLaws.{same-append}
 use Rattle.bitstream.proofs.PackLaws.{length-pack}
-use Rattle.aps.specs.Codec.{via}
 use Rattle.aps.specs.Kinds.{largestId, mostBytes}
 use Rattle.aps.specs.ApsSyntax.{numberOf, aps, inferred}
 use Rattle.aps.specs.Rbsp.{closed, readRbsp, rbspBits, rbspBytes}
 use Rattle.aps.specs.declared.aps.ApsKind.{ApsKind}
 use Rattle.aps.specs.declared.aps.VvcAps.{VvcAps}
 use Rattle.aps.proofs.CodecLaws.{then-value}
-use Rattle.aps.proofs.ApsLaws.{payloadBits, aps-sound, aps-exact, aps-back, aps-bits, aps-most, aps-id, inferred-kept, inferred-flag}
+use Rattle.aps.proofs.ApsLaws.{payloadBits, aps-sound, aps-exact, aps-back, aps-bits, aps-most, aps-id, inferred-flag}
 use Rattle.aps.proofs.ExtensionLaws.{aps-whole}
-use Rattle.aps.proofs.PackLaws.{pack-holds, pack-bytes, pack-is}
+use Rattle.aps.proofs.PackLaws.{pack-holds, pack-is}
 
 -- ---- how a set is closed
 
@@ -214,11 +213,6 @@ module _ (a : VvcAps) (o : aps .ok a ≡ true) where
       = holds-same s (s ++ t) 0 (rbspBits a) (omega (arith, length-append s t, length-bytes)) (same-append s t 0 (0 + length (rbspBits a)) (omega (arith, length-bytes))) bytes-hold in
       stands-read (s ++ t) a o (rw f h) ∙ rw l
 
-  -- what is written is bytes
-  pub rbsp-bytes : Bytes (rbspBytes a)
-  unfolding rbspBytes
-  rbsp-bytes = pack-bytes (rbspBits a) (bits-rbsp a o)
-
   -- at least one
   pub rbsp-some : 0 < length (rbspBytes a)
   rbsp-some = omega (arith, length-bytes, length-rbsp a)
@@ -244,8 +238,3 @@ module _ (a : VvcAps) (o : aps .ok a ≡ true) where
       let w : getD (rbspBytes a) (m / 8) 0 ≡ 0 = rw i z in
       let b : 0 / 2 ^ (7 - m % 8) % 2 ≡ 1 = rw w at stop-one in
       omega (arith, zero-div (2 ^ (7 - m % 8)))
-
-  -- the set as it is inferred is written the same
-  pub rbsp-inferred : rbspBytes (inferred a) ≡ rbspBytes a
-  unfolding rbspBytes rbspBits aps via
-  rbsp-inferred = rw (inferred-kept a o)

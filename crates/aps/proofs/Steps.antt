@@ -1,18 +1,18 @@
 -- What a function's proof rewrites with: one step of each piece, by refl, and the steps of a loop that reads or writes an array.
 use mathlib.Core.Path.{_≡_, refl, sym, ap, _∙_}
-use mathlib.Core.Bool.{Bool, true, false, cond, not, _&&_, and-true, and-false, and-assoc}
+use mathlib.Core.Bool.{Bool, true, false, cond, not, _&&_, and-assoc}
 use mathlib.Core.List.{List, [], _∷_, _++_, append-assoc, append-nil}
 use Prim.Native.Nat.{ℕ, zero, suc, _+_, _-_, _^_, _≤_, _<_}
 use native.Mathlib.Nat.{add-zero, suc-add, zero-add, sub-zero}
 use native.Mathlib.Numerals.{add-one}
 use native.Mathlib.Omega.{arith}
 use lib.ListN.{length, getD, take, drop, set, replicate, length-set, length-replicate, take-append-drop}
-use lib.Seq.{drop-cons, take-suc, take-suc-set, drop-set-lt, drop-drop, length-take-le, split-at, take-at, drop-at}
+use lib.Seq.{take-suc, take-suc-set, drop-set-lt, drop-drop, length-take-le, take-at, drop-at}
 use Rattle.bitstream.specs.Outcome.{Outcome, value, refused, _then_}
 use Rattle.bitstream.specs.Bits.{fieldAt}
 use Rattle.bitstream.specs.Fields.{readU, readUe}
 use Rattle.bitstream.proofs.FieldLaws.{field-lt}
-use lib.Dec.{eqb, leb, ltb}
+use lib.Dec.{eqb, leb}
 use Rattle.aps.specs.Elements.{flag, ueTo, signed, firsts, seconds, zipped, apart}
 use Rattle.aps.proofs.PairLaws.{firsts-zipped, seconds-zipped}
 use Rattle.aps.specs.Codec.{Codec, u, ue, _▷_, via, judged, Inferred, when, eachFrom, each}
@@ -20,21 +20,6 @@ use Rattle.aps.specs.Codec.{Codec, u, ue, _▷_, via, judged, Inferred, 
 pub u-read : (n : ℕ) (s : List ℕ) (p : ℕ) → (u n) .read s p ≡ value (fieldAt s p n) (p + n)
 unfolding u readU
 u-read n s p = refl
-
-module _ {A B : Type 0} where
-  pub ▷-read : (c : Codec A) (k : A → Codec B) (s : List ℕ) (p : ℕ)
-      → (c ▷ k) .read s p ≡ _then_ (c .read s p) (λ a q. _then_ ((k a) .read s q) (λ b r. value (a, b) r))
-  unfolding _▷_
-  ▷-read c k s p = refl
-
-  pub via-read : (to : A → B) (from : B → A) (test : B → Bool) (c : Codec A) (s : List ℕ) (p : ℕ)
-      → (via to from test c) .read s p ≡ _then_ (c .read s p) (λ a q. value (to a) q)
-  unfolding via
-  via-read to from test c s p = refl
-
-pub u-ok : (n v : ℕ) → (u n) .ok v ≡ ltb v (2 ^ n)
-unfolding u
-u-ok n v = refl
 
 pub ueTo-read : (most : ℕ) (s : List ℕ) (p : ℕ) → (ueTo most) .read s p ≡ _then_ (readUe s p) (λ v q. cond (leb v most) (value v q) (refused 2))
 unfolding ueTo judged ue
@@ -197,20 +182,6 @@ module _ {A : Type 0} (k : ℕ → Codec A) (N : ℕ) (v : A) (s : List ℕ) (p 
           size = length-set a i x ∙ R .size;
         }
 
-    -- an entry that takes no bits
-    pub reading-skip : i < N → (k i) .read s q ≡ value v q → Reading k N v s p (i + 1) a q
-    reading-skip h e =
-        let z : i < length a = omega (arith, R .size) in
-        let m : N - i ≡ suc (N - (i + 1)) = omega arith in
-        let g : getD a i v ∷ drop (suc i) a ≡ v ∷ replicate (N - (i + 1)) v = sym (drop-cons a i v z) ∙ rw m at (R .rest) in
-        let f : getD a i v ≡ v = cc in
-        record {
-          so-far = each-more k i s p (take i a) q v q (R .so-far) e
-              ∙ ap (λ (l : List A). value l q) (rw (add-one i) (ap (λ (x : A). take i a ++ x ∷ []) (sym f) ∙ sym (take-suc a i v z)));
-          rest = sym (drop-drop 1 i a) ∙ ap (drop 1) (rw m at (R .rest));
-          size = R .size;
-        }
-
     pub reading-done : i ≤ N → ((j : ℕ) → i ≤ j → j < N → (k j) .read s q ≡ value v q) → (each N k) .read s p ≡ value a q
     reading-done h f =
         let m : N ≡ i + (N - i) = omega arith in
@@ -285,15 +256,3 @@ module _ {A : Type 0} (k : ℕ → Codec A) (d : A) (a : List A) (i : ℕ) (h : 
   pub writing-more : (eachFrom 0 (i + 1) k) .emit (take (i + 1) a) ≡ (eachFrom 0 i k) .emit (take i a) ++ (k i) .emit (getD a i d)
   unfolding eachFrom
   writing-more = rw (take-more, each-emit k 0 i 1 (take i a) (getD a i d ∷ []) taken, zero-add i, append-nil ((k i) .emit (getD a i d)))
-
-  pub ok-more : (eachFrom 0 (i + 1) k) .ok (take (i + 1) a) ≡ ((eachFrom 0 i k) .ok (take i a) && (k i) .ok (getD a i d))
-  unfolding eachFrom
-  ok-more = rw (take-more, each-ok k 0 i 1 (take i a) (getD a i d ∷ []) taken, zero-add i) (ap (λ (b : Bool). (eachFrom 0 i k) .ok (take i a) && b) (and-true ((k i) .ok (getD a i d))))
-
-  -- an entry that is refused
-  pub ok-refused : (N : ℕ) → length a ≡ N → (k i) .ok (getD a i d) ≡ false → (each N k) .ok a ≡ false
-  unfolding eachFrom
-  ok-refused N e f =
-      let m : N ≡ i + suc (N - suc i) = omega arith in
-      ap (λ (l : List A). (eachFrom 0 N k) .ok l) (split-at a i d h) ∙ ap (λ (n : ℕ). (eachFrom 0 n k) .ok (take i a ++ getD a i d ∷ drop (suc i) a)) m
-      ∙ each-ok k 0 i (suc (N - suc i)) (take i a) (getD a i d ∷ drop (suc i) a) taken ∙ rw (zero-add i, f) (and-false ((eachFrom 0 i k) .ok (take i a)))

@@ -1,11 +1,11 @@
 -- alf_data( ), H.266 7.3.2.18, and its records.
-use mathlib.Core.Bool.{Bool, true, false, cond, not, _&&_}
+use mathlib.Core.Bool.{Bool, true, cond, _&&_}
 use mathlib.Core.List.{List}
-use Prim.Native.Nat.{ℕ, suc, _+_, _-_, _/_}
+use Prim.Native.Nat.{ℕ, _+_, _-_, _/_}
 use lib.Count.{leadingZeros}
 use lib.Dec.{leb, ltb, eqb}
 use lib.ListN.{length}
-use Rattle.aps.specs.Codec.{Codec, u, ue, _▷_, via, judged, Inferred, when, each}
+use Rattle.aps.specs.Codec.{Codec, u, _▷_, via, judged, Inferred, when, each}
 use Rattle.aps.specs.Elements.{flag, ueTo, signed, noFlag, noNumber, noSigned, noPair, noList, apart, flat, firsts, seconds, zipped}
 use Rattle.aps.specs.declared.alf.VvcAlfLuma.{VvcAlfLuma}
 use Rattle.aps.specs.declared.alf.VvcAlfChroma.{VvcAlfChroma}

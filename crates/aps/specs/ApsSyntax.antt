@@ -1,9 +1,9 @@
 -- adaptation_parameter_set_rbsp( ), H.266 7.3.2.6, up to the extension flag, and its record.
-use mathlib.Core.Bool.{Bool, true, false, cond}
+use mathlib.Core.Bool.{Bool, true, false}
 use mathlib.Core.List.{List, []}
 use Prim.Native.Nat.{ℕ, zero, suc}
 use lib.Dec.{leb}
-use lib.IntN.{ℤ, pos}
+use lib.IntN.{pos}
 use lib.ListN.{replicate}
 use Rattle.aps.specs.Kinds.{largestId}
 use Rattle.aps.specs.Codec.{Codec, u, _▷_, via, judged, provided, never}

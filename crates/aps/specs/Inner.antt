@@ -15,6 +15,9 @@ use Rattle.bitstream.specs.declared.nal.Size.the-variants as Size
 use Rattle.aps.specs.Codec.{Codec}
 use Rattle.aps.specs.LmcsSyntax.{LmcsHead, lmcsCodewords, lmcsChroma, toLmcs}
 use Rattle.aps.specs.ScalingSyntax.{Entry}
+use Rattle.aps.specs.ApsSyntax.{zeroAlf, zeroScaling}
+use Rattle.aps.specs.Rbsp.{readRbsp}
+use Rattle.aps.specs.Reading.{outcomeRead, setGiven}
 use Rattle.aps.specs.declared.fields.Stop.{Stop}
 use Rattle.aps.specs.declared.fields.Stop.the-variants as Stop
 use Rattle.aps.specs.declared.fields.SignedField.{SignedField}
@@ -22,6 +25,8 @@ use Rattle.aps.specs.declared.fields.SignedField.the-variants as Signed
 use Rattle.aps.specs.declared.lmcs.VvcLmcsData.{VvcLmcsData}
 use Rattle.aps.specs.declared.scaling_list_data.CoefficientsRead.{CoefficientsRead}
 use Rattle.aps.specs.declared.scaling_list_data.IdRead.{IdRead}
+use Rattle.aps.specs.declared.aps.LmcsAnswer.{LmcsAnswer}
+use Rattle.aps.specs.declared.aps.VvcAps.{VvcAps}
 use Rattle.aps.specs.declared.unit.Admission.{Admission}
 use Rattle.aps.specs.declared.unit.Admission.the-variants as Admission
 
@@ -62,6 +67,13 @@ pub record Headed (s : List ℕ) (kind id : ℕ) (chroma : Bool) : Type 0 where
   pub kind-is : fieldAt s 0 3 ≡ kind
   pub id-is : fieldAt s 3 5 ≡ id
   pub chroma-is : not (eqb (fieldAt s 8 1) 0) ≡ chroma
+
+-- the answer to s for an LMCS set, but for the arrays that are 0 in it
+abbrev pub AnswersLmcs : LmcsAnswer → List ℕ → Type 0
+AnswersLmcs r s =
+    (a : VvcAps)
+    → a ≡ record { kind = r .kind; «aps_adaptation_parameter_set_id» = r .id; «aps_chroma_present_flag» = r .chroma; «aps_extension_flag» = r .extension; alf = zeroAlf; lmcs = r .lmcs; scaling = zeroScaling }
+    → (outcomeRead (r .outcome) a ≡ readRbsp s) × (a ≡ setGiven (readRbsp s))
 
 -- lmcs_data( ) after its head
 unfoldable pub lmcsRest : Bool → LmcsHead → List ℕ → ℕ → Outcome VvcLmcsData

@@ -1,8 +1,8 @@
 -- lmcs_data( ), H.266 7.3.2.19, and its record.
-use mathlib.Core.Bool.{Bool, true, false, cond, not, _&&_}
+use mathlib.Core.Bool.{Bool, true, _&&_}
 use mathlib.Core.List.{List}
 use Prim.Native.Nat.{ℕ, _+_, _-_}
-use lib.Dec.{leb, eqb}
+use lib.Dec.{leb}
 use Rattle.aps.specs.Codec.{Codec, u, ue, _▷_, via, judged, when, each}
 use Rattle.aps.specs.Elements.{signed, noSigned, apart}
 use Rattle.aps.specs.declared.lmcs.VvcLmcsData.{VvcLmcsData}

@@ -5,7 +5,7 @@ use Prim.Native.Nat.{ℕ, zero, suc, _+_, _*_, _-_, _%_, min}
 use lib.Dec.{leb, ltb, eqb}
 use lib.IntN.{ℤ, pos, negsuc, _+ℤ_, _-ℤ_}
 use lib.ListN.{length, getD, take, drop, replicate}
-use Rattle.aps.specs.Codec.{Codec, u, ue, _▷_, via, judged, Inferred, when, each}
+use Rattle.aps.specs.Codec.{Codec, _▷_, via, Inferred, when, each}
 use Rattle.aps.specs.Elements.{flag, ueTo, seIn, noFlag, noNumber, noPair, joined}
 use Rattle.aps.specs.declared.scaling_list.VvcScalingListData.{VvcScalingListData}
 

@@ -6,11 +6,11 @@ use crate::fields::Stop;
 use crate::fields::read_flag;
 ghost use mathlib.Core.Path.{_≡_};
 ghost use mathlib.Core.Bool.{false};
-ghost use Prim.Native.Nat.{_+_, _*_, _≤_};
+ghost use Prim.Native.Nat.{_+_, _≤_};
 ghost use lib.ListN.{length};
 ghost use Rattle.bitstream.specs.Outcome.{mapOutcome};
 ghost use Rattle.aps.specs.AlfSyntax.{luma, toLuma, noLuma};
-ghost use Rattle.aps.specs.AlfSyntax.{chroma, alternatives, toChroma, noChroma, cc, toCc, noCc};
+ghost use Rattle.aps.specs.AlfSyntax.{chroma, toChroma, noChroma, cc, toCc, noCc};
 ghost use Rattle.aps.specs.AlfSyntax.{alf, alfFilters, toAlf};
 ghost use Rattle.aps.specs.ApsSyntax.{zeroAlf};
 ghost use Rattle.aps.specs.Inner.{EndsBy, outcomeStop, after, StopsBy, Spans};
@@ -141,7 +141,8 @@ fn read_luma_if(bytes: &[u8], p: usize, signal: bool) -> LumaRead
 // The chroma filters if they are signalled.
 fn read_chroma_if(bytes: &[u8], from: Stop, signal: bool) -> ChromaRead
     requires { ⌜ (length (now bytes) ≤ 65536) × StopsBy from 90000 ⌝ }
-    ensures { λ r. ⌜ (outcomeStop (r .stop) (r .chroma) ≡ after from λ p. (chroma signal) .read (now (bytes .entry)) p) × Spans from (r .stop) 3232 ⌝ }
+    ensures { λ r. ⌜ (outcomeStop (r .stop) (r .chroma) ≡ after from λ p. (chroma signal) .read (now (bytes .entry)) p)
+        × Spans from (r .stop) 3232 ⌝ }
 {
     match from {
         Stop::End(p) => {
@@ -219,7 +220,8 @@ fn read_alf_filters(bytes: &[u8], p: usize, luma: bool, chroma: bool, cb: bool, 
 // alf_data().
 pub(crate) fn parse_alf_data(bytes: &[u8], p: usize, chroma: bool) -> AlfRead
     requires { ⌜ (length (now bytes) ≤ 65536) × (p ≤ 100) ⌝ }
-    ensures { λ r. ⌜ (outcomeStop (r .stop) (r .alf) ≡ (alf chroma) .read (now (bytes .entry)) p) × EndsBy (outcomeStop (r .stop) (r .alf)) (p + 30000) ⌝ }
+    ensures { λ r. ⌜ (outcomeStop (r .stop) (r .alf) ≡ (alf chroma) .read (now (bytes .entry)) p)
+        × EndsBy (outcomeStop (r .stop) (r .alf)) (p + 30000) ⌝ }
 {
     let luma = read_flag(bytes, p);
     if chroma {

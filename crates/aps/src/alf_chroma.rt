@@ -22,7 +22,7 @@ ghost use lib.Seq.{sets};
 ghost use Rattle.bitstream.specs.Outcome.{mapOutcome};
 ghost use Rattle.aps.specs.Elements.{zipped};
 ghost use Rattle.aps.specs.AlfSyntax.{chroma, alternative, alternatives, chromaArrays, cc, ccCoefficients};
-ghost use Rattle.aps.specs.Inner.{EndsBy, outcomeStop, after, StopsBy};
+ghost use Rattle.aps.specs.Inner.{EndsBy, outcomeStop, StopsBy};
 
 // One alternative: its coefficients and its clips.
 struct Alternative {
@@ -60,7 +60,8 @@ fn keep_alternative(
     clip: &mut [u8; 48],
 )
     requires { ⌜ row < 8 ⌝ }
-    ensures { λ r. ⌜ (now (abs .exit) ≡ sets (now (abs .entry)) (6 * row) (from .abs)) × (now (sign .exit) ≡ sets (now (sign .entry)) (6 * row) (from .sign))
+    ensures { λ r. ⌜ (now (abs .exit) ≡ sets (now (abs .entry)) (6 * row) (from .abs))
+        × (now (sign .exit) ≡ sets (now (sign .entry)) (6 * row) (from .sign))
         × (now (clip .exit) ≡ sets (now (clip .entry)) (6 * row) (from .clip)) ⌝ }
 {
     let mut j: usize = 0;
@@ -107,7 +108,8 @@ fn read_alternatives(
 // The chroma filters.
 pub(crate) fn read_chroma(bytes: &[u8], p: usize) -> ChromaRead
     requires { ⌜ (length (now bytes) ≤ 65536) × (p ≤ 90000) ⌝ }
-    ensures { λ r. ⌜ (outcomeStop (r .stop) (r .chroma) ≡ (chroma true) .read (now (bytes .entry)) p) × EndsBy (outcomeStop (r .stop) (r .chroma)) (p + 3232) ⌝ }
+    ensures { λ r. ⌜ (outcomeStop (r .stop) (r .chroma) ≡ (chroma true) .read (now (bytes .entry)) p)
+        × EndsBy (outcomeStop (r .stop) (r .chroma)) (p + 3232) ⌝ }
 {
     let clip = read_flag(bytes, p);
     let count = read_ue_to(bytes, p + 1, 7);

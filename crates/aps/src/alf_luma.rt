@@ -17,7 +17,6 @@ ghost use mathlib.Core.Bool.{true, false};
 ghost use Prim.Native.Nat.{_+_, _*_, _≤_, _<_};
 ghost use lib.ListN.{length, replicate};
 ghost use Rattle.bitstream.specs.Outcome.{mapOutcome};
-ghost use Rattle.aps.specs.Codec.{each};
 ghost use Rattle.aps.specs.AlfSyntax.{luma, lumaIndexes, lumaFilters, toLuma};
 ghost use Rattle.aps.specs.Inner.{EndsBy, outcomeStop, StopsBy};
 
@@ -75,7 +74,8 @@ fn read_luma_filters(bytes: &[u8], p: usize, clip: bool, count_minus1: u32) -> L
 // The luma filters.
 pub(crate) fn read_luma(bytes: &[u8], p: usize) -> LumaRead
     requires { ⌜ (length (now bytes) ≤ 65536) × (p ≤ 90000) ⌝ }
-    ensures { λ r. ⌜ (outcomeStop (r .stop) (r .luma) ≡ (luma true) .read (now (bytes .entry)) p) × EndsBy (outcomeStop (r .stop) (r .luma)) (p + 20664) ⌝ }
+    ensures { λ r. ⌜ (outcomeStop (r .stop) (r .luma) ≡ (luma true) .read (now (bytes .entry)) p)
+        × EndsBy (outcomeStop (r .stop) (r .luma)) (p + 20664) ⌝ }
 {
     let clip = read_flag(bytes, p);
     let count = read_ue_to(bytes, p + 1, 24);

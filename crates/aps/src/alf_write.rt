@@ -34,7 +34,8 @@ pub(crate) fn put_coefficients(
     sign: &[bool],
 ) -> Stop
     requires { ⌜ (length (now out) ≡ 4096) × StopsBy from 20000 × (n ≤ length (now abs)) × (n ≤ 300) × (length (now sign) ≡ length (now abs)) ⌝ }
-    ensures { λ r. ⌜ Wrote (apart (each (length (now (abs .entry))) (λ i. when (ltb i n) noSigned coefficient))) (now (abs .entry), now (sign .entry)) (16 * n) from r
+    ensures { λ r. ⌜ Wrote (apart (each (length (now (abs .entry))) (λ i. when (ltb i n) noSigned coefficient)))
+        (now (abs .entry), now (sign .entry)) (16 * n) from r
         (now (out .entry)) (now (out .exit)) ⌝ }
 {
     let mut at = from;
@@ -104,7 +105,8 @@ fn put_luma_filters(
 ) -> Stop
     requires { ⌜ (length (now out) ≡ 4096) × StopsBy from 10000 × («count_minus1» ≤ 24)
         × (length (now idx) ≡ 25) × (length (now abs) ≡ 300) × (length (now sign) ≡ 300) × (length (now clips) ≡ 300) ⌝ }
-    ensures { λ r. ⌜ Wrote (lumaFilters clip «count_minus1») (now (idx .entry), ((now (abs .entry), now (sign .entry)), now (clips .entry))) 6200 from r
+    ensures { λ r. ⌜ Wrote (lumaFilters clip «count_minus1»)
+        (now (idx .entry), ((now (abs .entry), now (sign .entry)), now (clips .entry))) 6200 from r
         (now (out .entry)) (now (out .exit)) ⌝ }
 {
     let n = 12 * (count_minus1 as usize + 1);
@@ -168,7 +170,9 @@ fn put_luma(out: &mut [u8], from: Stop, signal: bool, d: VvcAlfLuma) -> Stop
 // What the four flags announce.
 fn put_alf_filters(out: &mut [u8], from: Stop, d: VvcAlfData) -> Stop
     requires { ⌜ (length (now out) ≡ 4096) × StopsBy from 1000 ⌝ }
-    ensures { λ r. ⌜ Wrote (alfFilters (d .«alf_luma_filter_signal_flag») (d .«alf_chroma_filter_signal_flag») (d .«alf_cc_cb_filter_signal_flag») (d .«alf_cc_cr_filter_signal_flag»))
+    ensures { λ r. ⌜ Wrote
+        (alfFilters (d .«alf_luma_filter_signal_flag») (d .«alf_chroma_filter_signal_flag»)
+        (d .«alf_cc_cb_filter_signal_flag») (d .«alf_cc_cr_filter_signal_flag»))
         (d .luma, (d .chroma, (d .«cc_cb», d .«cc_cr»))) 7406 from r (now (out .entry)) (now (out .exit)) ⌝ }
 {
     let luma = d.luma;

@@ -19,7 +19,7 @@ ghost use mathlib.Core.Path.{_≡_};
 ghost use mathlib.Core.Bool.{false};
 ghost use Prim.Native.Nat.{_-_, _≤_};
 ghost use lib.ListN.{length};
-ghost use Rattle.aps.specs.Inner.{Headed};
+ghost use Rattle.aps.specs.Inner.{AnswersLmcs, Headed};
 ghost use Rattle.aps.specs.Rbsp.{closed, readRbsp, parseApsRbsp};
 ghost use Rattle.aps.specs.ApsSyntax.{emptySet, zeroAlf, zeroLmcs, zeroScaling, numberOf};
 ghost use Rattle.aps.specs.Reading.{outcomeRead, outcomeAps, setGiven};
@@ -146,7 +146,8 @@ struct LmcsAnswer {
 }
 
 fn refuse_lmcs(why: Refusal) -> LmcsAnswer
-    ensures { λ r. ⌜ (r .outcome ≡ ApsOutcome.Refused why) × (r .kind ≡ ApsKind.Alf) × (r .id ≡ 0) × (r .chroma ≡ false) × (r .extension ≡ false) × (r .lmcs ≡ zeroLmcs) ⌝ }
+    ensures { λ r. ⌜ (r .outcome ≡ ApsOutcome.Refused why) × (r .kind ≡ ApsKind.Alf) × (r .id ≡ 0) × (r .chroma ≡ false) × (r .extension ≡ false)
+        × (r .lmcs ≡ zeroLmcs) ⌝ }
 {
     LmcsAnswer {
         outcome: ApsOutcome::Refused(why),
@@ -161,7 +162,7 @@ fn refuse_lmcs(why: Refusal) -> LmcsAnswer
 // An LMCS set: its id is judged before its payload.
 fn lmcs_answer(bytes: &[u8], id: u8, chroma: bool) -> LmcsAnswer
     requires { ⌜ (length (now bytes) ≤ 65536) × Headed (now bytes) 1 id chroma ⌝ }
-    ensures { λ r. ⌜ ((a : VvcAps) → a ≡ record { kind = r .kind; «aps_adaptation_parameter_set_id» = r .id; «aps_chroma_present_flag» = r .chroma; «aps_extension_flag» = r .extension; alf = zeroAlf; lmcs = r .lmcs; scaling = zeroScaling } → (outcomeRead (r .outcome) a ≡ readRbsp (now (bytes .entry))) × (a ≡ setGiven (readRbsp (now (bytes .entry))))) ⌝ }
+    ensures { λ r. ⌜ AnswersLmcs r (now (bytes .entry)) ⌝ }
 {
     if Lmcs::MAX_ID < id {
         return refuse_lmcs(Refusal::InvalidData);

@@ -9,7 +9,6 @@ ghost use mathlib.Core.Path.{_≡_};
 ghost use mathlib.Core.Bool.{true};
 ghost use Prim.Native.Nat.{_+_, _≤_};
 ghost use lib.ListN.{length};
-ghost use Rattle.aps.specs.Codec.{when};
 ghost use Rattle.aps.specs.Inner.{lmcsRest, EndsBy, outcomeStop, outcomeSigned, StopsBy};
 ghost use Rattle.aps.specs.LmcsSyntax.{inRange, lmcsHead, lmcsCodewords, lmcsChroma, lmcs};
 ghost use Rattle.aps.specs.ApsSyntax.{zeroLmcs};
@@ -115,7 +114,8 @@ fn read_head(bytes: &[u8], p: usize) -> Head
 // Bins min to 15 - max: a magnitude u(n), and its sign if it is not 0.
 fn read_codewords(bytes: &[u8], p: usize, min: u32, max: u32, prec: u32) -> Codewords
     requires { ⌜ (length (now bytes) ≤ 65536) × (p ≤ 1000) × (inRange (min, (max, prec)) ≡ true) ⌝ }
-    ensures { λ r. ⌜ (outcomeStop (r .stop) (r .abs, r .sign) ≡ (lmcsCodewords (min, (max, prec))) .read (now (bytes .entry)) p) × StopsBy (r .stop) (p + 256) ⌝ }
+    ensures { λ r. ⌜ (outcomeStop (r .stop) (r .abs, r .sign) ≡ (lmcsCodewords (min, (max, prec))) .read (now (bytes .entry)) p)
+        × StopsBy (r .stop) (p + 256) ⌝ }
 {
     let mut abs = [0u32; 16];
     let mut sign = [false; 16];

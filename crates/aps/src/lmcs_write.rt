@@ -57,8 +57,10 @@ fn put_codewords(
     abs: &[u32],
     sign: &[bool],
 ) -> Stop
-    requires { ⌜ (length (now out) ≡ 4096) × StopsBy from 31000 × (inRange (min, (max, prec)) ≡ true) × (length (now abs) ≡ 16) × (length (now sign) ≡ 16) ⌝ }
-    ensures { λ r. ⌜ Wrote (lmcsCodewords (min, (max, prec))) (now (abs .entry), now (sign .entry)) 256 from r (now (out .entry)) (now (out .exit)) ⌝ }
+    requires { ⌜ (length (now out) ≡ 4096) × StopsBy from 31000 × (inRange (min, (max, prec)) ≡ true) × (length (now abs) ≡ 16)
+        × (length (now sign) ≡ 16) ⌝ }
+    ensures { λ r. ⌜ Wrote (lmcsCodewords (min, (max, prec))) (now (abs .entry), now (sign .entry)) 256 from r (now (out .entry))
+        (now (out .exit)) ⌝ }
 {
     let mut at = from;
     let mut i: usize = 0;

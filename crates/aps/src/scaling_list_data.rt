@@ -15,7 +15,7 @@ use bitstream::bit_reader::BitReader;
 use bitstream::bit_reader::FieldS;
 use bitstream::bit_reader::FieldU;
 ghost use mathlib.Core.Path.{_≡_};
-ghost use mathlib.Core.Bool.{cond, not};
+ghost use mathlib.Core.Bool.{cond};
 ghost use Prim.Native.Nat.{_+_, _-_, _*_, _≤_, _<_};
 ghost use lib.Dec.{ltb};
 ghost use lib.IntN.{pos, negsuc, natAbs};
@@ -86,7 +86,9 @@ fn read_step(bytes: &[u8], p: usize, id: usize, i: usize, prev: i32) -> FieldS
 // The sums of id after its DC, stored in its list.
 fn read_steps(bytes: &[u8], p: usize, id: usize, dc: i32, list: &mut [i32; 1792]) -> Stop
     requires { ⌜ (length (now bytes) ≤ 65536) × (p ≤ 800000) × (id < 28) × (natAbs dc ≤ 128) ⌝ }
-    ensures { λ r. ⌜ (outcomeStop r (now (list .exit)) ≡ mapOutcome (λ l. sets (now (list .entry)) (64 * id) l) ((sums id 0 (entries id) dc) .read (now (bytes .entry)) p)) × EndsBy (outcomeStop r (now (list .exit))) (p + 4032) ⌝ }
+    ensures { λ r. ⌜ (outcomeStop r (now (list .exit))
+        ≡ mapOutcome (λ l. sets (now (list .entry)) (64 * id) l) ((sums id 0 (entries id) dc) .read (now (bytes .entry)) p))
+        × EndsBy (outcomeStop r (now (list .exit))) (p + 4032) ⌝ }
 {
     let n = matrix_entries(id);
     let mut sum = dc;
@@ -128,7 +130,9 @@ pub(crate) fn read_coefficients(
     list: &mut [i32; 1792],
 ) -> CoefficientsRead
     requires { ⌜ (length (now bytes) ≤ 65536) × (p ≤ 700000) × (id < 28) ⌝ }
-    ensures { λ r. ⌜ (outcomeCoefficients r (now (list .exit)) ≡ mapOutcome (storedList (now (list .entry)) id) ((coefficients id) .read (now (bytes .entry)) p)) × EndsBy (outcomeCoefficients r (now (list .exit))) (p + 4095) ⌝ }
+    ensures { λ r. ⌜ (outcomeCoefficients r (now (list .exit))
+        ≡ mapOutcome (storedList (now (list .entry)) id) ((coefficients id) .read (now (bytes .entry)) p))
+        × EndsBy (outcomeCoefficients r (now (list .exit))) (p + 4095) ⌝ }
 {
     let field = read_dc(bytes, p, id);
     match field {
@@ -166,7 +170,8 @@ fn read_delta(bytes: &[u8], p: usize, id: usize, used: bool) -> FieldU
 // One coded id.
 fn read_entry(bytes: &[u8], p: usize, id: usize, list: &mut [i32; 1792]) -> IdRead
     requires { ⌜ (length (now bytes) ≤ 65536) × (p ≤ 600000) × (id < 28) ⌝ }
-    ensures { λ r. ⌜ (outcomeId r (now (list .exit)) ≡ mapOutcome (stored (now (list .entry)) id) ((entrySyntax id) .read (now (bytes .entry)) p)) × EndsBy (outcomeId r (now (list .exit))) (p + 4160) ⌝ }
+    ensures { λ r. ⌜ (outcomeId r (now (list .exit)) ≡ mapOutcome (stored (now (list .entry)) id) ((entrySyntax id) .read (now (bytes .entry)) p))
+        × EndsBy (outcomeId r (now (list .exit))) (p + 4160) ⌝ }
 {
     if read_flag(bytes, p) {
         let field = read_delta(bytes, p + 1, id, true);
@@ -214,7 +219,8 @@ fn read_entry(bytes: &[u8], p: usize, id: usize, list: &mut [i32; 1792]) -> IdRe
 // One id; an uncoded one is a copy.
 fn read_id(bytes: &[u8], p: usize, chroma: bool, id: usize, list: &mut [i32; 1792]) -> IdRead
     requires { ⌜ (length (now bytes) ≤ 65536) × (p ≤ 600000) × (id < 28) ⌝ }
-    ensures { λ r. ⌜ (outcomeId r (now (list .exit)) ≡ mapOutcome (stored (now (list .entry)) id) ((idAt chroma id) .read (now (bytes .entry)) p)) × EndsBy (outcomeId r (now (list .exit))) (p + 4160) ⌝ }
+    ensures { λ r. ⌜ (outcomeId r (now (list .exit)) ≡ mapOutcome (stored (now (list .entry)) id) ((idAt chroma id) .read (now (bytes .entry)) p))
+        × EndsBy (outcomeId r (now (list .exit))) (p + 4160) ⌝ }
 {
     if scaling_id_coded(id, chroma) {
         return read_entry(bytes, p, id, list);
@@ -241,7 +247,8 @@ fn store_dc(dc: &mut [i32; 14], id: usize, value: i32)
 // scaling_list_data().
 pub(crate) fn parse_scaling_list_data(bytes: &[u8], p: usize, chroma: bool) -> ScalingRead
     requires { ⌜ (length (now bytes) ≤ 65536) × (p ≤ 100) ⌝ }
-    ensures { λ r. ⌜ (outcomeStop (r .stop) (r .scaling) ≡ mapOutcome keep ((scalingSyntax chroma) .read (now (bytes .entry)) p)) × EndsBy (outcomeStop (r .stop) (r .scaling)) (p + 200000) ⌝ }
+    ensures { λ r. ⌜ (outcomeStop (r .stop) (r .scaling) ≡ mapOutcome keep ((scalingSyntax chroma) .read (now (bytes .entry)) p))
+        × EndsBy (outcomeStop (r .stop) (r .scaling)) (p + 200000) ⌝ }
 {
     let mut copy = [false; 28];
     let mut pred = [false; 28];

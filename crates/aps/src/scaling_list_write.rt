@@ -111,7 +111,8 @@ fn put_entry(
     list: &[i32],
 ) -> Stop
     requires { ⌜ (length (now out) ≡ 4096) × StopsBy from 31000 × (id < 28) × (length (now dc) ≡ 14) × (length (now list) ≡ 1792) ⌝ }
-    ensures { λ r. ⌜ Wrote (entrySyntax id) (looked true id copy pred delta (getD (now (dc .entry)) (id - 14) (pos 0)) (take 64 (drop (id * 64) (now (list .entry))))) 1116 from r
+    ensures { λ r. ⌜ Wrote (entrySyntax id)
+        (looked true id copy pred delta (getD (now (dc .entry)) (id - 14) (pos 0)) (take 64 (drop (id * 64) (now (list .entry))))) 1116 from r
         (now (out .entry)) (now (out .exit)) ⌝ }
 {
     let a = put_flag(out, from, copy);
@@ -137,7 +138,8 @@ fn put_id(
     list: &[i32],
 ) -> Stop
     requires { ⌜ (length (now out) ≡ 4096) × StopsBy from 31000 × (id < 28) × (length (now dc) ≡ 14) × (length (now list) ≡ 1792) ⌝ }
-    ensures { λ r. ⌜ Wrote (idAt chroma id) (looked chroma id copy pred delta (getD (now (dc .entry)) (id - 14) (pos 0)) (take 64 (drop (id * 64) (now (list .entry))))) 1116 from r
+    ensures { λ r. ⌜ Wrote (idAt chroma id)
+        (looked chroma id copy pred delta (getD (now (dc .entry)) (id - 14) (pos 0)) (take 64 (drop (id * 64) (now (list .entry))))) 1116 from r
         (now (out .entry)) (now (out .exit)) ⌝ }
 {
     if scaling_id_coded(id, chroma) {

@@ -68,7 +68,8 @@ pub extern "C" fn aps_take_stream(
     counts: &mut [u64; 3],
 ) -> u32
     ensures code { λ r. ⌜ r ≡ answerCode (answerTo (stream (now (bytes .entry)) (length (now (work .entry))))) ⌝ }
-    ensures counts { λ _. ⌜ now (counts .exit) ≡ countsIn (answerTo (stream (now (bytes .entry)) (length (now (work .entry))))) (now (counts .entry)) ⌝ }
+    ensures counts { λ _. ⌜ now (counts .exit)
+        ≡ countsIn (answerTo (stream (now (bytes .entry)) (length (now (work .entry))))) (now (counts .entry)) ⌝ }
     ensures table { λ _. ⌜ now (table .exit) ≡ tableAfter (stream (now (bytes .entry)) (length (now (work .entry)))) (now (table .entry)) ⌝ }
     ensures work { λ _. ⌜ now (work .exit) ≡ workAfterStream (now (bytes .entry)) (now (work .entry)) ⌝ }
 {

@@ -1,6 +1,6 @@
 -- Laws of the escapes. Each is proved over the number z of zero bytes that stand right before, then said plainly for a list alone.
 use Prim.Native.Nat.{ℕ, zero, suc, _+_, _*_, _/_, _≤_, _<_}
-use mathlib.Core.Path.{_≡_, refl, sym, ap}
+use mathlib.Core.Path.{_≡_, refl, sym}
 use mathlib.Core.Bool.{Bool, true, false, not, _&&_, true≢false}
 use mathlib.Core.List.{List, [], _∷_}
 use native.Mathlib.Numerals.{add-one}
@@ -179,10 +179,6 @@ unescape-length z (b ∷ bs) = go (not (leb 2 z && eqb b 3)) (unescape-length (z
 -- escaped bytes are at most half as many again
 pub escape-most : (l : List ℕ) → length (escape l) ≤ length l * 3 / 2
 escape-most l = omega (arith, escape-length 0 l)
-
--- and never fewer
-pub escape-least : (l : List ℕ) → length l ≤ length (escape l)
-escape-least l = omega (arith, unescape-length 0 (escape l), ap length (unescape-of-escape l))
 
 -- bytes with escapes removed are at most as many
 pub unescape-most : (l : List ℕ) → length (unescape l) ≤ length l

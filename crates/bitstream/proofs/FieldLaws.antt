@@ -2,12 +2,12 @@
 use Prim.Native.Nat.{ℕ, zero, suc, _+_, _-_, _*_, _/_, _%_, _^_, _≤_, _<_}
 use mathlib.Core.Path.{_≡_, refl, sym, ap, ap₂, _∙_}
 use mathlib.Core.List.{List}
-use native.Mathlib.Nat.{add-zero, add-suc, zero-div, zero-mod, pow-suc, mul-assoc, div-eq-of-lt}
+use native.Mathlib.Nat.{add-zero, add-suc, zero-div, pow-suc, mul-assoc, div-eq-of-lt}
 use native.Mathlib.Decide.{decLt}
 use native.Mathlib.Omega.{arith}
 use lib.ListN.{getD, length, List·getD-eq-default}
 use lib.Count.{leadingZeros, leading-length}
-use lib.Pow.{shl-lt, shl-shr, shr-shr, pow-pos, pow-add, high, low, mod-pow-add}
+use lib.Pow.{shl-lt, shl-shr, shr-shr, pow-pos, high, low, mod-pow-add}
 use Rattle.bitstream.specs.Bits.{bitAt, fieldAt}
 
 pub bit-lt : (s : List ℕ) (p : ℕ) → bitAt s p < 2
@@ -66,10 +66,6 @@ pub field-past : (s : List ℕ) (p n : ℕ) → length s * 8 ≤ p → fieldAt s
 unfolding fieldAt
 field-past s p zero h = refl
 field-past s p (suc n) h = omega (arith, field-past s p n h, bit-past s (p + n) (omega arith))
-
--- the last k bits are past the end
-pub field-end : (s : List ℕ) (p n k : ℕ) → length s * 8 ≤ p + n → fieldAt s p (n + k) ≡ fieldAt s p n * 2 ^ k
-field-end s p n k h = field-add s p n k ∙ omega (arith, field-past s (p + n) k h)
 
 -- ---- parts of a longer field
 

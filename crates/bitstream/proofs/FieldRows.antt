@@ -21,12 +21,12 @@ pub data Row : Type 0 where
   packed : List ℕ → List ℕ → Row
 
 -- the row with what the definitions give as its last part
-abbrev pub given : Row → Row
-given (u s p n o) = u s p n (readU s p n)
-given (ue s p o) = ue s p (readUe s p)
-given (se s p o) = se s p (readSe s p)
-given (trailing s p o) = trailing s p (readTrailing s p)
-given (packed bs s) = packed bs (pack bs)
+abbrev pub computed : Row → Row
+computed (u s p n o) = u s p n (readU s p n)
+computed (ue s p o) = ue s p (readUe s p)
+computed (se s p o) = se s p (readSe s p)
+computed (trailing s p o) = trailing s p (readTrailing s p)
+computed (packed bs s) = packed bs (pack bs)
 
 unfoldable pub rows : List Row
 rows =
@@ -52,6 +52,6 @@ rows =
     ∷ packed (ueBits 0 ++ (ueBits 1 ++ (ueBits 2 ++ (ueBits 3 ++ (ueBits 4 ++ (ueBits 5 ++ (ueBits 6 ++ (ueBits 7 ++ (ueBits 8 ++ ueBits 9))))))))) codes
     ∷ []
 
-pub rows-hold : map given rows ≡ rows
+pub rows-hold : map computed rows ≡ rows
 unfolding rows readU readUe readSe readTrailing zeroAt zerosAt suffixAt ueValue ueFrom seValue ueZeros ueBits trailingValue trailingWidth bitAt fieldAt fieldBits putInByte putBit putBits pack leadingZeros
 rows-hold = refl

@@ -12,7 +12,6 @@ pub mod LocalLaws
 pub mod PackLaws
 pub mod FieldRows
 pub mod EscapeLaws
-pub mod EscapeRows
 pub mod Filling
 pub mod EscapeTurns
 pub mod EscapeCalls

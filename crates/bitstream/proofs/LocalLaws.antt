@@ -1,15 +1,15 @@
 -- Reading does not depend on the bits after a field's end.
-use Prim.Native.Nat.{ℕ, suc, _+_, _-_, _*_, _/_, _%_, _^_, _≤_, _<_}
+use Prim.Native.Nat.{ℕ, suc, _+_, _-_, _*_, _/_, _≤_, _<_}
 use mathlib.Core.Path.{_≡_, refl, sym, ap, _∙_}
 use mathlib.Core.List.{List, _++_}
 use native.Mathlib.Omega.{arith}
 use borrow.Author.Tests.{lt-ltb, eq-eqb}
 use lib.IntN.{ℤ}
-use lib.ListN.{length, getD, List·getD-append}
+use lib.ListN.{length, List·getD-append}
 use Rattle.bitstream.specs.Outcome.{Outcome, value, refused, mapOutcome}
 use Rattle.bitstream.specs.Bits.{bitAt, fieldAt}
 use Rattle.bitstream.specs.Fields.{readU, readUe, readSe, readTrailing, seValue, trailingWidth, trailingValue, trailingBits}
-use Rattle.bitstream.proofs.FieldLaws.{bit-inside, field-cons}
+use Rattle.bitstream.proofs.FieldLaws.{bit-inside}
 use Rattle.bitstream.proofs.CodeLaws.{value-refused, code-read, Code, ue-code}
 use Rattle.bitstream.proofs.CallLaws.{trailing-value}
 use Rattle.bitstream.proofs.HoldLaws.{Same, field-same, holds-first}

@@ -2,10 +2,10 @@
 use Prim.Native.Nat.{ℕ, zero, suc, _+_, _-_, _*_, _/_, _%_, _^_, _≤_, _<_}
 use mathlib.Core.Path.{_≡_, refl, sym, ap, _∙_}
 use mathlib.Core.List.{List, [], _∷_, _++_}
-use native.Mathlib.Nat.{add-zero, add-suc, suc-add, eq-or-lt-of-le}
+use native.Mathlib.Nat.{add-zero, add-suc, suc-add}
 use native.Mathlib.Decide.{ℕ-discrete, decLt}
 use native.Mathlib.Omega.{arith}
-use lib.ListN.{getD, length, drop, replicate, length-replicate, length-append, length-drop, List·getD-append, List·getD-eq-default, getD-replicate}
+use lib.ListN.{getD, length, drop, replicate, length-replicate, length-append, length-drop, List·getD-append}
 use lib.Seq.{getD-set-same, getD-set-other, getD-append-add, getD-drop, ext-getD}
 use Rattle.bitstream.specs.Bits.{putInByte, putBit, putBits, pack, AreBits}
 use Rattle.bitstream.proofs.WriteLaws.{length-put}

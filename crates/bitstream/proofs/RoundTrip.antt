@@ -1,28 +1,23 @@
 -- Reading gives back what was written, for every width; and what is read inside the input stands there as it is written.
-use Prim.Native.Nat.{ℕ, zero, suc, _+_, _-_, _*_, _/_, _%_, _^_, _≤_, _<_}
+use Prim.Native.Nat.{ℕ, suc, _+_, _-_, _*_, _/_, _%_, _^_, _≤_, _<_}
 use mathlib.Core.Path.{_≡_, refl, sym, ap, _∙_}
-use mathlib.Core.List.{List, [], _∷_}
-use mathlib.Core.Bool.{Bool, true, false, cond}
+use mathlib.Core.List.{List}
 use native.Mathlib.Nat.{add-zero, mul-one, pow-suc, mod-eq-of-lt, div-eq-of-lt}
 use native.Mathlib.Omega.{arith}
-use borrow.Author.Tests.{lt-ltb, eq-eqb, ltb-true, ltb-false}
-use lib.Count.{leadingZeros, leading-unique}
-use lib.Dec.{ltb}
+use borrow.Author.Tests.{lt-ltb, eq-eqb}
+use lib.Count.{leading-unique}
 use lib.IntN.{ℤ}
 use lib.ListN.{length}
-use lib.Pow.{pow-pos, pow-lt, pow-mono, high}
+use lib.Pow.{pow-lt, pow-mono, high}
 use Rattle.bitstream.specs.Outcome.{Outcome, value, refused, mapOutcome}
-use Rattle.bitstream.specs.Bits.{bitAt, fieldAt, fieldBits, putBits, Holds, AreBits}
+use Rattle.bitstream.specs.Bits.{bitAt, fieldAt, fieldBits, Holds}
 use Rattle.bitstream.specs.Fields.{readU, readUe, readSe, readTrailing, ueZeros, ueBits, seValue, seCode, trailingValue, trailingWidth, trailingBits}
-use Rattle.bitstream.specs.Reading.{uAt, ueAt, seAt, trailingAt}
-use Rattle.bitstream.specs.Writing.{due, putAt, writeBitsAt, writeUeAt, writeSeAt, writeTrailingAt}
 use Rattle.bitstream.proofs.FieldLaws.{field-lt, field-snoc, word-top}
 use Rattle.bitstream.proofs.CodeLaws.{value-refused, ue-max, code-read, code-field, Code, ue-code}
-use Rattle.bitstream.proofs.CallLaws.{u-in, ue-in, se-in, trailing-in, trailing-value}
-use Rattle.bitstream.proofs.WriteLaws.{ue-top, ue-field, length-field, length-ue, length-trailing, trailing-field}
+use Rattle.bitstream.proofs.CallLaws.{trailing-value}
+use Rattle.bitstream.proofs.WriteLaws.{ue-top, ue-field, length-ue, length-trailing, trailing-field}
 use Rattle.bitstream.proofs.Signed.{se-code, code-se}
-use Rattle.bitstream.proofs.KeepLaws.{length-puts, puts-hold}
-use Rattle.bitstream.proofs.HoldLaws.{bits-field, bits-ue, bits-trailing, holds-first, holds-field, field-holds}
+use Rattle.bitstream.proofs.HoldLaws.{holds-first, holds-field, field-holds}
 
 -- ---- where a field's bits stand, it is read
 

@@ -1,7 +1,7 @@
 -- The fields u(n), ue(v), se(v) and rbsp_trailing_bits() (H.266 clauses 7.2, 9.2 and 7.3.2.16): what is read at a bit, and the bits of a value.
 use Prim.Native.Nat.{ℕ, zero, suc, _+_, _-_, _*_, _/_, _%_, _^_}
-use mathlib.Core.List.{List, [], _∷_, _++_}
-use mathlib.Core.Bool.{Bool, true, false, cond, _&&_}
+use mathlib.Core.List.{List, _∷_, _++_}
+use mathlib.Core.Bool.{Bool, cond, _&&_}
 use lib.ListN.{length, replicate}
 use lib.Dec.{ltb, eqb}
 use lib.Count.{leadingZeros}

@@ -82,7 +82,8 @@ fn unescaped_len(src: &[u8]) -> usize
 // Writes src with escapes removed into out, which has room for it.
 fn unescape_into(src: &[u8], out: &mut [u8]) -> usize
     requires { ⌜ (length (now src) ≤ 65536) × (length (unescape (now src)) ≤ length (now out)) ⌝ }
-    ensures { λ r. ⌜ (r ≡ length (unescape (now (src .entry)))) × (now (out .exit) ≡ unescape (now (src .entry)) ++ drop (length (unescape (now (src .entry)))) (now (out .entry))) ⌝ }
+    ensures { λ r. ⌜ (r ≡ length (unescape (now (src .entry))))
+        × (now (out .exit) ≡ unescape (now (src .entry)) ++ drop (length (unescape (now (src .entry)))) (now (out .entry))) ⌝ }
 {
     let mut i = 0;
     let mut z = 0;
@@ -117,7 +118,8 @@ fn escaped_len(src: &[u8]) -> usize
 // Writes src with escapes put in into out, which has room for it.
 fn escape_into(src: &[u8], out: &mut [u8]) -> usize
     requires { ⌜ (length (now src) ≤ 65536) × (length (escape (now src)) ≤ length (now out)) ⌝ }
-    ensures { λ r. ⌜ (r ≡ length (escape (now (src .entry)))) × (now (out .exit) ≡ escape (now (src .entry)) ++ drop (length (escape (now (src .entry)))) (now (out .entry))) ⌝ }
+    ensures { λ r. ⌜ (r ≡ length (escape (now (src .entry))))
+        × (now (out .exit) ≡ escape (now (src .entry)) ++ drop (length (escape (now (src .entry)))) (now (out .entry))) ⌝ }
 {
     let mut i = 0;
     let mut z = 0;

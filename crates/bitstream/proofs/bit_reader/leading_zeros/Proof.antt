@@ -1,10 +1,9 @@
 -- `leading_zeros`: the input ends first, or a 1 bit or 32 zeros come first.
 use borrow.Author.Needs.{needs}
-use mathlib.Core.Path.{_≡_, sym, ap, _∙_}
+use mathlib.Core.Path.{sym}
 use denote.Ref.{now}
 use native.Mathlib.Omega.{arith}
-use lib.Count.{leadingZeros, leading-le}
-use Rattle.bitstream.specs.Bits.{fieldAt}
+use lib.Count.{leading-le}
 use Rattle.bitstream.proofs.CodeLaws.{zeros-past, zeros-ended, zeros-counted}
 use Rattle.bitstream.proofs.bit_reader.leading_zeros.Statement.{statement}
 use Rattle.bitstream.proofs.bit_reader.leading_zeros.Tie as tie

@@ -1,8 +1,8 @@
 -- `narrow`: its byte moved up to bit p, and all but the first n bits shifted out.
 use borrow.Author.Needs.{needs}
-use Prim.Native.Nat.{_+_, _-_, _*_, _%_, _^_}
-use mathlib.Core.Path.{_≡_, sym, ap, _∙_}
-use native.Mathlib.Nat.{zero-add, lt-of-le-of-lt}
+use Prim.Native.Nat.{_-_, _*_, _%_, _^_}
+use mathlib.Core.Path.{_≡_, sym, _∙_}
+use native.Mathlib.Nat.{zero-add}
 use denote.Ref.{now}
 use native.Mathlib.Omega.{arith}
 use lib.Pow.{mod-mod-pow, shr-le}

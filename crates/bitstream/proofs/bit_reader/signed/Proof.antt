@@ -1,10 +1,6 @@
 -- `signed`: both signs fit, since the code is below 2 ^ 32 - 1.
 use borrow.Author.Needs.{needs}
 use Prim.Native.Nat.{_<_}
-use mathlib.Core.Path.{sym, ap, _∙_}
-use Rattle.bitstream.specs.Outcome.{mapOutcome}
-use Rattle.bitstream.specs.Fields.{seValue}
-use Rattle.bitstream.specs.Reading.{outcomeU}
 use Rattle.bitstream.proofs.CodeLaws.{se-odd, se-odd-fits, se-even, se-even-fits}
 use Rattle.bitstream.proofs.bit_reader.signed.Statement.{statement}
 use Rattle.bitstream.proofs.bit_reader.signed.Tie as tie

@@ -3,7 +3,6 @@ use borrow.Author.Needs.{needs}
 use borrow.Author.Tests.{lt-ltb}
 use mathlib.Core.Path.{sym}
 use denote.Ref.{now}
-use native.Mathlib.Omega.{arith}
 use Rattle.bitstream.specs.Fields.{readU}
 use Rattle.bitstream.specs.Reading.{uAt}
 use Rattle.bitstream.proofs.CallLaws.{within-long, within-far, within-in, u-in}
