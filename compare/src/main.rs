@@ -11,6 +11,7 @@ mod expected;
 mod fields;
 mod library;
 mod random;
+mod records;
 mod replay;
 mod rust_calls;
 mod sets;
@@ -30,7 +31,11 @@ fn main() -> ExitCode {
         _ => (),
     }
     if parts.is_empty() {
-        parts = ["fields", "escapes", "sets", "written", "table", "calls", "speed"].map(String::from).to_vec();
+        parts = [
+            "fields", "escapes", "sets", "written", "records", "table", "calls", "speed",
+        ]
+        .map(String::from)
+        .to_vec();
     }
     let mut rows = Vec::new();
     let mut calls = Vec::new();
@@ -41,11 +46,12 @@ fn main() -> ExitCode {
             "escapes" => rows.extend(escapes::compare()),
             "sets" => rows.extend(sets::compare()),
             "written" => rows.extend(written::compare()),
+            "records" => rows.push(records::compare()),
             "table" => rows.extend(table::compare()),
             "calls" => calls = calls::compare(),
             "speed" => times = speed::measure(),
             _ => {
-                eprintln!("no part {part}: fields, escapes, sets, written, table, calls, speed, boundaries, sample or replay");
+                eprintln!("no part {part}: fields, escapes, sets, written, records, table, calls, speed, boundaries, sample or replay");
                 return ExitCode::from(2);
             }
         }
