@@ -115,8 +115,9 @@ pub fn empty_set() -> VvcAps
 pub(crate) fn refuse(why: Refusal) -> ApsReading
     ensures { λ r. ⌜ (r .outcome ≡ ApsOutcome.Refused why) × (r .set ≡ emptySet) ⌝ }
 {
+    let outcome = ApsOutcome::Refused(why);
     ApsReading {
-        outcome: ApsOutcome::Refused(why),
+        outcome,
         set: empty_set(),
     }
 }

@@ -15,7 +15,7 @@ use Rattle.aps.proofs.CodecLaws.{never-true, and-left, and-right}
 use Rattle.aps_c.specs.Numbers.{flagNumber, naturals, flags, lumaNumbers, chromaNumbers, ccNumbers, alfNumbers, lmcsNumbers, scalingNumbers, numbers}
 use Rattle.aps_c.specs.SetOf.{between, part, natural, integer, truth, byteAt, wordAt, flagAt, bytesAt, wordsAt, integersAt, flagsAt}
 use Rattle.aps_c.specs.SetOf.{kindOf, lumaOf, chromaOf, ccOf, alfOf, lmcsOf, scalingOf, setOf}
-use Rattle.aps_c.specs.SetOf.{allIn, heldLuma, heldChroma, heldCc, heldAlf, heldLmcs, heldScaling, heldHead, held, isSet}
+use Rattle.aps_c.specs.SetOf.{allIn, fitsLuma, fitsChroma, fitsCc, fitsAlf, fitsLmcs, fitsScaling, fitsHead, fits, isSet}
 use Rattle.aps_c.proofs.PutLaws.{map-same}
 use Rattle.aps_c.proofs.TakeLaws.{natural-in, natural-small, integer-in}
 
@@ -124,8 +124,8 @@ both a b h = (and-left a b h, and-right a b h)
 -- ---- the records
 
 module _ (l : List ℤ) (i : ℕ) where
-  luma-back : i + 927 ≤ length l → heldLuma l i ≡ true → lumaNumbers (lumaOf l i) ≡ part l i 927
-  unfolding heldLuma lumaOf lumaNumbers naturals
+  luma-back : i + 927 ≤ length l → fitsLuma l i ≡ true → lumaNumbers (lumaOf l i) ≡ part l i 927
+  unfolding fitsLuma lumaOf lumaNumbers naturals
   luma-back s h =
       let (h₁, r₁) = both _ _ h in
       let (h₂, r₂) = both _ _ r₁ in
@@ -138,8 +138,8 @@ module _ (l : List ℤ) (i : ℕ) where
       let p₅ = join l i 327 (i + 327) 300 refl p₄ (truths l (i + 327) 300 h₅) in
       join l i 627 (i + 627) 300 refl p₅ (bytes l (i + 627) 300 h₆)
 
-  chroma-back : i + 146 ≤ length l → heldChroma l i ≡ true → chromaNumbers (chromaOf l i) ≡ part l i 146
-  unfolding heldChroma chromaOf chromaNumbers naturals
+  chroma-back : i + 146 ≤ length l → fitsChroma l i ≡ true → chromaNumbers (chromaOf l i) ≡ part l i 146
+  unfolding fitsChroma chromaOf chromaNumbers naturals
   chroma-back s h =
       let (h₁, r₁) = both _ _ h in
       let (h₂, r₂) = both _ _ r₁ in
@@ -151,8 +151,8 @@ module _ (l : List ℤ) (i : ℕ) where
       let p₄ = join l i 50 (i + 50) 48 refl p₃ (truths l (i + 50) 48 h₃) in
       join l i 98 (i + 98) 48 refl p₄ (bytes l (i + 98) 48 h₄)
 
-  cc-back : i + 57 ≤ length l → heldCc l i ≡ true → ccNumbers (ccOf l i) ≡ part l i 57
-  unfolding heldCc ccOf ccNumbers naturals
+  cc-back : i + 57 ≤ length l → fitsCc l i ≡ true → ccNumbers (ccOf l i) ≡ part l i 57
+  unfolding fitsCc ccOf ccNumbers naturals
   cc-back s h =
       let (h₁, r₁) = both _ _ h in
       let (h₂, h₃) = both _ _ r₁ in
@@ -160,8 +160,8 @@ module _ (l : List ℤ) (i : ℕ) where
       join l i 29 (i + 29) 28 refl p₂ (truths l (i + 29) 28 h₃)
 
 module _ (l : List ℤ) (size : length l ≡ 3122) where
-  alf-back : heldAlf l ≡ true → alfNumbers (alfOf l) ≡ part l 4 1191
-  unfolding heldAlf alfOf alfNumbers flags
+  alf-back : fitsAlf l ≡ true → alfNumbers (alfOf l) ≡ part l 4 1191
+  unfolding fitsAlf alfOf alfNumbers flags
   alf-back h =
       let (h₁, r₁) = both _ _ h in
       let (h₂, r₂) = both _ _ r₁ in
@@ -178,8 +178,8 @@ module _ (l : List ℤ) (size : length l ≡ 3122) where
       let p₄ = join l 4 1077 1081 57 refl p₃ (cc-back l 1081 (omega arith) h₄) in
       join l 4 1134 1138 57 refl p₄ (cc-back l 1138 (omega arith) h₅)
 
-  lmcs-back : heldLmcs l ≡ true → lmcsNumbers (lmcsOf l) ≡ part l 1195 37
-  unfolding heldLmcs lmcsOf lmcsNumbers naturals
+  lmcs-back : fitsLmcs l ≡ true → lmcsNumbers (lmcsOf l) ≡ part l 1195 37
+  unfolding fitsLmcs lmcsOf lmcsNumbers naturals
   lmcs-back h =
       let (h₁, r₁) = both _ _ h in
       let (h₂, r₂) = both _ _ r₁ in
@@ -193,8 +193,8 @@ module _ (l : List ℤ) (size : length l ≡ 3122) where
       let p₃ = join l 1195 19 1214 16 refl p₂ (truths l 1214 16 h₂) in
       join l 1195 35 1230 2 refl p₃ (join l 1230 1 1231 1 refl (byte l 1230 (omega arith) h₃) (flag l 1231 (omega arith) h₄))
 
-  scaling-back : heldScaling l ≡ true → scalingNumbers (scalingOf l) ≡ part l 1232 1890
-  unfolding heldScaling scalingOf scalingNumbers
+  scaling-back : fitsScaling l ≡ true → scalingNumbers (scalingOf l) ≡ part l 1232 1890
+  unfolding fitsScaling scalingOf scalingNumbers
   scaling-back h =
       let (h₁, r₁) = both _ _ h in
       let (h₂, h₃) = both _ _ r₁ in
@@ -205,9 +205,9 @@ module _ (l : List ℤ) (size : length l ≡ 3122) where
       let p₄ = join l 1232 84 1316 14 refl p₃ (integers l 1316 14 c) in
       join l 1232 98 1330 1792 refl p₄ (integers l 1330 1792 d)
 
-  held-back : held l ≡ true → numbers (setOf l) ≡ l
-  unfolding held heldHead setOf numbers naturals
-  held-back h =
+  fits-back : fits l ≡ true → numbers (setOf l) ≡ l
+  unfolding fits fitsHead setOf numbers naturals
+  fits-back h =
       let (h₁, r₁) = both _ _ h in
       let (h₂, r₂) = both _ _ r₁ in
       let (h₃, h₄) = both _ _ r₂ in
@@ -224,4 +224,4 @@ module _ (l : List ℤ) (size : length l ≡ 3122) where
 -- the numbers of the set are the numbers it was made of
 pub numbers-of : (l : List ℤ) → isSet l ≡ true → numbers (setOf l) ≡ l
 unfolding isSet
-numbers-of l h = held-back l (eqb-true (length l) 3122 (and-left (eqb (length l) 3122) (held l) h)) (and-right (eqb (length l) 3122) (held l) h)
+numbers-of l h = fits-back l (eqb-true (length l) 3122 (and-left (eqb (length l) 3122) (fits l) h)) (and-right (eqb (length l) 3122) (fits l) h)

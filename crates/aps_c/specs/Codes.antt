@@ -19,26 +19,26 @@ code (value a p) = 0
 code (refused e) = e
 
 -- the numbers of the set; on a refusal the array at entry
-unfoldable pub given : Outcome VvcAps → List ℤ → List ℤ
-given (value a p) before = sets before 0 (numbers a)
-given (refused e) before = before
+unfoldable pub numbersLeft : Outcome VvcAps → List ℤ → List ℤ
+numbersLeft (value a p) before = sets before 0 (numbers a)
+numbersLeft (refused e) before = before
 
 -- the bit where reading ended; on a refusal the array at entry
-unfoldable pub placed : {A : Type 0} → Outcome A → List ℕ → List ℕ
-placed (value a p) before = set before 0 p
-placed (refused e) before = before
+unfoldable pub placeLeft : {A : Type 0} → Outcome A → List ℕ → List ℕ
+placeLeft (value a p) before = set before 0 p
+placeLeft (refused e) before = before
 
 -- the header's five fields; on a refusal the array at entry
-unfoldable pub headed : Outcome VvcNalHeader → List ℕ → List ℕ
-headed (value h p) before = sets before 0 (headerNumbers h)
-headed (refused e) before = before
+unfoldable pub headerLeft : Outcome VvcNalHeader → List ℕ → List ℕ
+headerLeft (value h p) before = sets before 0 (headerNumbers h)
+headerLeft (refused e) before = before
 
 -- `aps_write` and `aps_write_nal`: 2 for numbers that are no set's
 unfoldable pub writeNumbers : List ℤ → List ℕ → Outcome (List ℕ)
 writeNumbers l out = cond (isSet l) (writeAps (setOf l) out) (refused 2)
 
-unfoldable pub writeUnit : List ℤ → ℕ → List ℕ → Outcome (List ℕ)
-writeUnit l type out = cond (isSet l) (writeApsNal (setOf l) type out) (refused 2)
+unfoldable pub writeNumbersNal : List ℤ → ℕ → List ℕ → Outcome (List ℕ)
+writeNumbersNal l type out = cond (isSet l) (writeApsNal (setOf l) type out) (refused 2)
 
 -- `aps_rewrite`: the set that is read, written
 unfoldable pub rewrite : List ℕ → List ℕ → Outcome (List ℕ)

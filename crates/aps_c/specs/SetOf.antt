@@ -148,8 +148,8 @@ wordsIn l i n = allIn (pos 0) (pos 4294967295) l i n
 abbrev pub integersIn : List ℤ → ℕ → ℕ → Bool
 integersIn l i n = allIn (negsuc 2147483647) (pos 2147483647) l i n
 
-unfoldable pub heldLuma : List ℤ → ℕ → Bool
-heldLuma l i =
+unfoldable pub fitsLuma : List ℤ → ℕ → Bool
+fitsLuma l i =
     flagsIn l i 1
     && (wordsIn l (i + 1) 1
     && (bytesIn l (i + 2) 25
@@ -157,31 +157,31 @@ heldLuma l i =
     && (flagsIn l (i + 327) 300
     && bytesIn l (i + 627) 300))))
 
-unfoldable pub heldChroma : List ℤ → ℕ → Bool
-heldChroma l i =
+unfoldable pub fitsChroma : List ℤ → ℕ → Bool
+fitsChroma l i =
     flagsIn l i 1
     && (wordsIn l (i + 1) 49
     && (flagsIn l (i + 50) 48
     && bytesIn l (i + 98) 48))
 
-unfoldable pub heldCc : List ℤ → ℕ → Bool
-heldCc l i = wordsIn l i 1 && (bytesIn l (i + 1) 28 && flagsIn l (i + 29) 28)
+unfoldable pub fitsCc : List ℤ → ℕ → Bool
+fitsCc l i = wordsIn l i 1 && (bytesIn l (i + 1) 28 && flagsIn l (i + 29) 28)
 
-unfoldable pub heldAlf : List ℤ → Bool
-heldAlf l = flagsIn l 4 4 && (heldLuma l 8 && (heldChroma l 935 && (heldCc l 1081 && heldCc l 1138)))
+unfoldable pub fitsAlf : List ℤ → Bool
+fitsAlf l = flagsIn l 4 4 && (fitsLuma l 8 && (fitsChroma l 935 && (fitsCc l 1081 && fitsCc l 1138)))
 
-unfoldable pub heldLmcs : List ℤ → Bool
-heldLmcs l = wordsIn l 1195 19 && (flagsIn l 1214 16 && (bytesIn l 1230 1 && flagsIn l 1231 1))
+unfoldable pub fitsLmcs : List ℤ → Bool
+fitsLmcs l = wordsIn l 1195 19 && (flagsIn l 1214 16 && (bytesIn l 1230 1 && flagsIn l 1231 1))
 
-unfoldable pub heldScaling : List ℤ → Bool
-heldScaling l = flagsIn l 1232 56 && (wordsIn l 1288 28 && integersIn l 1316 1806)
+unfoldable pub fitsScaling : List ℤ → Bool
+fitsScaling l = flagsIn l 1232 56 && (wordsIn l 1288 28 && integersIn l 1316 1806)
 
-unfoldable pub heldHead : List ℤ → Bool
-heldHead l = allIn (pos 0) (pos 2) l 0 1 && (bytesIn l 1 1 && flagsIn l 2 2)
+unfoldable pub fitsHead : List ℤ → Bool
+fitsHead l = allIn (pos 0) (pos 2) l 0 1 && (bytesIn l 1 1 && flagsIn l 2 2)
 
-unfoldable pub held : List ℤ → Bool
-held l = heldHead l && (heldAlf l && (heldLmcs l && heldScaling l))
+unfoldable pub fits : List ℤ → Bool
+fits l = fitsHead l && (fitsAlf l && (fitsLmcs l && fitsScaling l))
 
 -- as many numbers as a set has, and such that its fields can hold them
 unfoldable pub isSet : List ℤ → Bool
-isSet l = eqb (length l) 3122 && held l
+isSet l = eqb (length l) 3122 && fits l

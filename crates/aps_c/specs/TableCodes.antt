@@ -15,11 +15,11 @@ answerCode passed = 256
 answerCode (refusal n) = n
 
 -- how many units were accepted, refused and passed over; on a refusal the array at entry
-unfoldable pub countsIn : Answer → List ℕ → List ℕ
-countsIn (counted c) before = sets before 0 (c .accepted ∷ c .refused ∷ c .passed ∷ [])
-countsIn accepted before = before
-countsIn passed before = before
-countsIn (refusal n) before = before
+unfoldable pub countsLeft : Answer → List ℕ → List ℕ
+countsLeft (counted c) before = sets before 0 (c .accepted ∷ c .refused ∷ c .passed ∷ [])
+countsLeft accepted before = before
+countsLeft passed before = before
+countsLeft (refusal n) before = before
 
 -- 0 for a set that was found, or the refusal's number
 unfoldable pub lookCode : Looked → ℕ
@@ -27,11 +27,11 @@ lookCode (found a) = 0
 lookCode (missing n) = n
 
 -- the numbers of the set; on a refusal the array at entry
-unfoldable pub setIn : Looked → List ℤ → List ℤ
-setIn (found a) before = sets before 0 (numbers a)
-setIn (missing n) before = before
+unfoldable pub setLeft : Looked → List ℤ → List ℤ
+setLeft (found a) before = sets before 0 (numbers a)
+setLeft (missing n) before = before
 
 -- the chroma flag and the extension flag, 0 or 1; on a refusal the array at entry
-unfoldable pub flagsIn : Looked → List ℕ → List ℕ
-flagsIn (found a) before = sets before 0 (flagNumber (a .«aps_chroma_present_flag») ∷ flagNumber (a .«aps_extension_flag») ∷ [])
-flagsIn (missing n) before = before
+unfoldable pub flagsLeft : Looked → List ℕ → List ℕ
+flagsLeft (found a) before = sets before 0 (flagNumber (a .«aps_chroma_present_flag») ∷ flagNumber (a .«aps_extension_flag») ∷ [])
+flagsLeft (missing n) before = before

@@ -26,7 +26,7 @@ ghost use Rattle.bitstream.specs.Escapes.{outcomeSize, ebspToRbsp, rbspToEbsp};
 ghost use Rattle.aps.specs.Reading.{outcomeAps};
 ghost use Rattle.aps.specs.Rbsp.{parseApsRbsp};
 ghost use Rattle.aps.specs.Unit.{parseNalHeader, parseAps, workAfter};
-ghost use Rattle.aps_c.specs.Codes.{code, given, placed, headed, writeNumbers, writeUnit, rewrite};
+ghost use Rattle.aps_c.specs.Codes.{code, numbersLeft, placeLeft, headerLeft, writeNumbers, writeNumbersNal, rewrite};
 ghost use Rattle.aps_c.specs.Numbers.{headerNumbers};
 
 mod numbers;
@@ -36,8 +36,8 @@ mod table;
 // The set's numbers and the bit where reading ended.
 fn answered(reading: ApsReading, set: &mut [i64; NUMBERS], end: &mut [u64; 1]) -> u32
     ensures code { λ r. ⌜ r ≡ code (outcomeAps reading) ⌝ }
-    ensures set { λ _. ⌜ now (set .exit) ≡ given (outcomeAps reading) (now (set .entry)) ⌝ }
-    ensures end { λ _. ⌜ now (end .exit) ≡ placed (outcomeAps reading) (now (end .entry)) ⌝ }
+    ensures set { λ _. ⌜ now (set .exit) ≡ numbersLeft (outcomeAps reading) (now (set .entry)) ⌝ }
+    ensures end { λ _. ⌜ now (end .exit) ≡ placeLeft (outcomeAps reading) (now (end .entry)) ⌝ }
 {
     let outcome = reading.outcome;
     match outcome {
@@ -63,7 +63,7 @@ fn put_header(h: VvcNalHeader, header: &mut [u8; 5])
 #[no_mangle]
 pub extern "C" fn aps_parse_nal_header(unit: &[u8], header: &mut [u8; 5]) -> u32
     ensures code { λ r. ⌜ r ≡ code (parseNalHeader (now (unit .entry))) ⌝ }
-    ensures header { λ _. ⌜ now (header .exit) ≡ headed (parseNalHeader (now (unit .entry))) (now (header .entry)) ⌝ }
+    ensures header { λ _. ⌜ now (header .exit) ≡ headerLeft (parseNalHeader (now (unit .entry))) (now (header .entry)) ⌝ }
 {
     match parse_nal_header(unit) {
         HeaderRead::Header(h) => {
@@ -77,8 +77,8 @@ pub extern "C" fn aps_parse_nal_header(unit: &[u8], header: &mut [u8; 5]) -> u32
 #[no_mangle]
 pub extern "C" fn aps_parse_rbsp(bytes: &[u8], set: &mut [i64; NUMBERS], end: &mut [u64; 1]) -> u32
     ensures code { λ r. ⌜ r ≡ code (parseApsRbsp (now (bytes .entry))) ⌝ }
-    ensures set { λ _. ⌜ now (set .exit) ≡ given (parseApsRbsp (now (bytes .entry))) (now (set .entry)) ⌝ }
-    ensures end { λ _. ⌜ now (end .exit) ≡ placed (parseApsRbsp (now (bytes .entry))) (now (end .entry)) ⌝ }
+    ensures set { λ _. ⌜ now (set .exit) ≡ numbersLeft (parseApsRbsp (now (bytes .entry))) (now (set .entry)) ⌝ }
+    ensures end { λ _. ⌜ now (end .exit) ≡ placeLeft (parseApsRbsp (now (bytes .entry))) (now (end .entry)) ⌝ }
 {
     answered(parse_aps_rbsp(bytes), set, end)
 }
@@ -87,7 +87,7 @@ pub extern "C" fn aps_parse_rbsp(bytes: &[u8], set: &mut [i64; NUMBERS], end: &m
 #[no_mangle]
 pub extern "C" fn aps_rbsp_end(bytes: &[u8], end: &mut [u64; 1]) -> u32
     ensures code { λ r. ⌜ r ≡ code (parseApsRbsp (now (bytes .entry))) ⌝ }
-    ensures end { λ _. ⌜ now (end .exit) ≡ placed (parseApsRbsp (now (bytes .entry))) (now (end .entry)) ⌝ }
+    ensures end { λ _. ⌜ now (end .exit) ≡ placeLeft (parseApsRbsp (now (bytes .entry))) (now (end .entry)) ⌝ }
 {
     let reading = parse_aps_rbsp(bytes);
     let outcome = reading.outcome;
@@ -104,7 +104,7 @@ pub extern "C" fn aps_rbsp_end(bytes: &[u8], end: &mut [u64; 1]) -> u32
 #[no_mangle]
 pub extern "C" fn aps_unit_end(unit: &[u8], work: &mut [u8], end: &mut [u64; 1]) -> u32
     ensures code { λ r. ⌜ r ≡ code (parseAps (now (unit .entry)) (length (now (work .entry)))) ⌝ }
-    ensures end { λ _. ⌜ now (end .exit) ≡ placed (parseAps (now (unit .entry)) (length (now (work .entry)))) (now (end .entry)) ⌝ }
+    ensures end { λ _. ⌜ now (end .exit) ≡ placeLeft (parseAps (now (unit .entry)) (length (now (work .entry)))) (now (end .entry)) ⌝ }
     ensures work { λ _. ⌜ now (work .exit) ≡ workAfter (now (unit .entry)) (now (work .entry)) ⌝ }
 {
     let reading = parse_aps(unit, work);
@@ -126,8 +126,8 @@ pub extern "C" fn aps_parse(
     end: &mut [u64; 1],
 ) -> u32
     ensures code { λ r. ⌜ r ≡ code (parseAps (now (unit .entry)) (length (now (work .entry)))) ⌝ }
-    ensures set { λ _. ⌜ now (set .exit) ≡ given (parseAps (now (unit .entry)) (length (now (work .entry)))) (now (set .entry)) ⌝ }
-    ensures end { λ _. ⌜ now (end .exit) ≡ placed (parseAps (now (unit .entry)) (length (now (work .entry)))) (now (end .entry)) ⌝ }
+    ensures set { λ _. ⌜ now (set .exit) ≡ numbersLeft (parseAps (now (unit .entry)) (length (now (work .entry)))) (now (set .entry)) ⌝ }
+    ensures end { λ _. ⌜ now (end .exit) ≡ placeLeft (parseAps (now (unit .entry)) (length (now (work .entry)))) (now (end .entry)) ⌝ }
     ensures work { λ _. ⌜ now (work .exit) ≡ workAfter (now (unit .entry)) (now (work .entry)) ⌝ }
 {
     answered(parse_aps(unit, work), set, end)
@@ -136,7 +136,7 @@ pub extern "C" fn aps_parse(
 // How many bytes were written.
 pub(crate) fn sized(size: Size, len: &mut [u64; 1]) -> u32
     ensures code { λ r. ⌜ ((l : List ℕ) → r ≡ code (outcomeSize size l)) ⌝ }
-    ensures len { λ _. ⌜ ((l : List ℕ) → now (len .exit) ≡ placed (outcomeSize size l) (now (len .entry))) ⌝ }
+    ensures len { λ _. ⌜ ((l : List ℕ) → now (len .exit) ≡ placeLeft (outcomeSize size l) (now (len .entry))) ⌝ }
 {
     match size {
         Size::Bytes(n) => {
@@ -152,7 +152,7 @@ pub(crate) fn sized(size: Size, len: &mut [u64; 1]) -> u32
 pub extern "C" fn aps_write(set: &[i64], out: &mut [u8], len: &mut [u64; 1]) -> u32
     ensures code { λ r. ⌜ r ≡ code (writeNumbers (now (set .entry)) (now (out .entry))) ⌝ }
     ensures out { λ _. ⌜ now (out .exit) ≡ left (now (out .entry)) (writeNumbers (now (set .entry)) (now (out .entry))) ⌝ }
-    ensures len { λ _. ⌜ now (len .exit) ≡ placed (writeNumbers (now (set .entry)) (now (out .entry))) (now (len .entry)) ⌝ }
+    ensures len { λ _. ⌜ now (len .exit) ≡ placeLeft (writeNumbers (now (set .entry)) (now (out .entry))) (now (len .entry)) ⌝ }
 {
     if !is_set(set) {
         return 2;
@@ -168,9 +168,9 @@ pub extern "C" fn aps_write_nal(
     out: &mut [u8],
     len: &mut [u64; 1],
 ) -> u32
-    ensures code { λ r. ⌜ r ≡ code (writeUnit (now (set .entry)) «unit_type» (now (out .entry))) ⌝ }
-    ensures out { λ _. ⌜ now (out .exit) ≡ left (now (out .entry)) (writeUnit (now (set .entry)) «unit_type» (now (out .entry))) ⌝ }
-    ensures len { λ _. ⌜ now (len .exit) ≡ placed (writeUnit (now (set .entry)) «unit_type» (now (out .entry))) (now (len .entry)) ⌝ }
+    ensures code { λ r. ⌜ r ≡ code (writeNumbersNal (now (set .entry)) «unit_type» (now (out .entry))) ⌝ }
+    ensures out { λ _. ⌜ now (out .exit) ≡ left (now (out .entry)) (writeNumbersNal (now (set .entry)) «unit_type» (now (out .entry))) ⌝ }
+    ensures len { λ _. ⌜ now (len .exit) ≡ placeLeft (writeNumbersNal (now (set .entry)) «unit_type» (now (out .entry))) (now (len .entry)) ⌝ }
 {
     if !is_set(set) {
         return 2;
@@ -183,7 +183,7 @@ pub extern "C" fn aps_write_nal(
 pub extern "C" fn aps_rewrite(bytes: &[u8], out: &mut [u8], len: &mut [u64; 1]) -> u32
     ensures code { λ r. ⌜ r ≡ code (rewrite (now (bytes .entry)) (now (out .entry))) ⌝ }
     ensures out { λ _. ⌜ now (out .exit) ≡ left (now (out .entry)) (rewrite (now (bytes .entry)) (now (out .entry))) ⌝ }
-    ensures len { λ _. ⌜ now (len .exit) ≡ placed (rewrite (now (bytes .entry)) (now (out .entry))) (now (len .entry)) ⌝ }
+    ensures len { λ _. ⌜ now (len .exit) ≡ placeLeft (rewrite (now (bytes .entry)) (now (out .entry))) (now (len .entry)) ⌝ }
 {
     let reading = parse_aps_rbsp(bytes);
     let outcome = reading.outcome;
@@ -198,7 +198,7 @@ pub extern "C" fn aps_rewrite(bytes: &[u8], out: &mut [u8], len: &mut [u64; 1]) 
 pub extern "C" fn aps_ebsp_to_rbsp(src: &[u8], out: &mut [u8], len: &mut [u64; 1]) -> u32
     ensures code { λ r. ⌜ r ≡ code (ebspToRbsp (now (src .entry)) (now (out .entry))) ⌝ }
     ensures out { λ _. ⌜ now (out .exit) ≡ left (now (out .entry)) (ebspToRbsp (now (src .entry)) (now (out .entry))) ⌝ }
-    ensures len { λ _. ⌜ now (len .exit) ≡ placed (ebspToRbsp (now (src .entry)) (now (out .entry))) (now (len .entry)) ⌝ }
+    ensures len { λ _. ⌜ now (len .exit) ≡ placeLeft (ebspToRbsp (now (src .entry)) (now (out .entry))) (now (len .entry)) ⌝ }
 {
     sized(ebsp_to_rbsp(src, out), len)
 }
@@ -208,7 +208,7 @@ pub extern "C" fn aps_ebsp_to_rbsp(src: &[u8], out: &mut [u8], len: &mut [u64; 1
 pub extern "C" fn aps_rbsp_to_ebsp(src: &[u8], out: &mut [u8], len: &mut [u64; 1]) -> u32
     ensures code { λ r. ⌜ r ≡ code (rbspToEbsp (now (src .entry)) (now (out .entry))) ⌝ }
     ensures out { λ _. ⌜ now (out .exit) ≡ left (now (out .entry)) (rbspToEbsp (now (src .entry)) (now (out .entry))) ⌝ }
-    ensures len { λ _. ⌜ now (len .exit) ≡ placed (rbspToEbsp (now (src .entry)) (now (out .entry))) (now (len .entry)) ⌝ }
+    ensures len { λ _. ⌜ now (len .exit) ≡ placeLeft (rbspToEbsp (now (src .entry)) (now (out .entry))) (now (len .entry)) ⌝ }
 {
     sized(rbsp_to_ebsp(src, out), len)
 }

@@ -15,7 +15,7 @@ ghost use Prim.Native.Nat.{_+_, _≤_};
 ghost use lib.ListN.{length};
 ghost use Rattle.aps_c.specs.SetOf.{natural, integer, truth, bytesAt, wordsAt, integersAt, flagsAt};
 ghost use Rattle.aps_c.specs.SetOf.{kindOf as kind-of, lumaOf, chromaOf, ccOf, alfOf, lmcsOf, scalingOf, setOf};
-ghost use Rattle.aps_c.specs.SetOf.{allIn, heldLuma, heldChroma, heldCc, heldAlf, heldLmcs, heldScaling, heldHead, held, isSet};
+ghost use Rattle.aps_c.specs.SetOf.{allIn, fitsLuma, fitsChroma, fitsCc, fitsAlf, fitsLmcs, fitsScaling, fitsHead, fits, isSet};
 
 // A number as a field; one that the field can't hold reads as 0.
 fn to_u32(x: i64) -> u32
@@ -272,9 +272,9 @@ fn in_range(src: &[i64], from: usize, n: usize, low: i64, high: i64) -> bool
 }
 
 // The fields can hold the numbers.
-fn held_luma(src: &[i64], from: usize) -> bool
+fn fits_luma(src: &[i64], from: usize) -> bool
     requires { ⌜ (from + 927 ≤ length (now src)) × (from + 927 ≤ 3122) ⌝ }
-    ensures { λ r. ⌜ r ≡ heldLuma (now (src .entry)) from ⌝ }
+    ensures { λ r. ⌜ r ≡ fitsLuma (now (src .entry)) from ⌝ }
 {
     if !in_range(src, from, 1, 0, 1) {
         return false;
@@ -294,9 +294,9 @@ fn held_luma(src: &[i64], from: usize) -> bool
     in_range(src, from + 627, 300, 0, 255)
 }
 
-fn held_chroma(src: &[i64], from: usize) -> bool
+fn fits_chroma(src: &[i64], from: usize) -> bool
     requires { ⌜ (from + 146 ≤ length (now src)) × (from + 146 ≤ 3122) ⌝ }
-    ensures { λ r. ⌜ r ≡ heldChroma (now (src .entry)) from ⌝ }
+    ensures { λ r. ⌜ r ≡ fitsChroma (now (src .entry)) from ⌝ }
 {
     if !in_range(src, from, 1, 0, 1) {
         return false;
@@ -310,9 +310,9 @@ fn held_chroma(src: &[i64], from: usize) -> bool
     in_range(src, from + 98, 48, 0, 255)
 }
 
-fn held_cc(src: &[i64], from: usize) -> bool
+fn fits_cc(src: &[i64], from: usize) -> bool
     requires { ⌜ (from + 57 ≤ length (now src)) × (from + 57 ≤ 3122) ⌝ }
-    ensures { λ r. ⌜ r ≡ heldCc (now (src .entry)) from ⌝ }
+    ensures { λ r. ⌜ r ≡ fitsCc (now (src .entry)) from ⌝ }
 {
     if !in_range(src, from, 1, 0, 4294967295) {
         return false;
@@ -323,28 +323,28 @@ fn held_cc(src: &[i64], from: usize) -> bool
     in_range(src, from + 29, 28, 0, 1)
 }
 
-fn held_alf(src: &[i64]) -> bool
+fn fits_alf(src: &[i64]) -> bool
     requires { ⌜ length (now src) ≡ 3122 ⌝ }
-    ensures { λ r. ⌜ r ≡ heldAlf (now (src .entry)) ⌝ }
+    ensures { λ r. ⌜ r ≡ fitsAlf (now (src .entry)) ⌝ }
 {
     if !in_range(src, 4, 4, 0, 1) {
         return false;
     }
-    if !held_luma(src, 8) {
+    if !fits_luma(src, 8) {
         return false;
     }
-    if !held_chroma(src, 935) {
+    if !fits_chroma(src, 935) {
         return false;
     }
-    if !held_cc(src, 1081) {
+    if !fits_cc(src, 1081) {
         return false;
     }
-    held_cc(src, 1138)
+    fits_cc(src, 1138)
 }
 
-fn held_lmcs(src: &[i64]) -> bool
+fn fits_lmcs(src: &[i64]) -> bool
     requires { ⌜ length (now src) ≡ 3122 ⌝ }
-    ensures { λ r. ⌜ r ≡ heldLmcs (now (src .entry)) ⌝ }
+    ensures { λ r. ⌜ r ≡ fitsLmcs (now (src .entry)) ⌝ }
 {
     if !in_range(src, 1195, 19, 0, 4294967295) {
         return false;
@@ -358,9 +358,9 @@ fn held_lmcs(src: &[i64]) -> bool
     in_range(src, 1231, 1, 0, 1)
 }
 
-fn held_scaling(src: &[i64]) -> bool
+fn fits_scaling(src: &[i64]) -> bool
     requires { ⌜ length (now src) ≡ 3122 ⌝ }
-    ensures { λ r. ⌜ r ≡ heldScaling (now (src .entry)) ⌝ }
+    ensures { λ r. ⌜ r ≡ fitsScaling (now (src .entry)) ⌝ }
 {
     if !in_range(src, 1232, 56, 0, 1) {
         return false;
@@ -371,9 +371,9 @@ fn held_scaling(src: &[i64]) -> bool
     in_range(src, 1316, 1806, -2147483648, 2147483647)
 }
 
-fn held_head(src: &[i64]) -> bool
+fn fits_head(src: &[i64]) -> bool
     requires { ⌜ length (now src) ≡ 3122 ⌝ }
-    ensures { λ r. ⌜ r ≡ heldHead (now (src .entry)) ⌝ }
+    ensures { λ r. ⌜ r ≡ fitsHead (now (src .entry)) ⌝ }
 {
     if !in_range(src, 0, 1, 0, 2) {
         return false;
@@ -384,20 +384,20 @@ fn held_head(src: &[i64]) -> bool
     in_range(src, 2, 2, 0, 1)
 }
 
-fn held_fields(src: &[i64]) -> bool
+fn fits_fields(src: &[i64]) -> bool
     requires { ⌜ length (now src) ≡ 3122 ⌝ }
-    ensures { λ r. ⌜ r ≡ held (now (src .entry)) ⌝ }
+    ensures { λ r. ⌜ r ≡ fits (now (src .entry)) ⌝ }
 {
-    if !held_head(src) {
+    if !fits_head(src) {
         return false;
     }
-    if !held_alf(src) {
+    if !fits_alf(src) {
         return false;
     }
-    if !held_lmcs(src) {
+    if !fits_lmcs(src) {
         return false;
     }
-    held_scaling(src)
+    fits_scaling(src)
 }
 
 // As many numbers as a set has, and such that its fields can hold them.
@@ -407,5 +407,5 @@ pub fn is_set(src: &[i64]) -> bool
     if src.len() != NUMBERS {
         return false;
     }
-    held_fields(src)
+    fits_fields(src)
 }

@@ -22,9 +22,9 @@ ghost use Rattle.aps.specs.Unit.{workAfter};
 ghost use Rattle.aps_table.specs.Places.{newTable, lookedUp};
 ghost use Rattle.aps_table.specs.Calls.{stream, alone, tableAfter, answerTo, workAfterStream};
 ghost use Rattle.aps_table.specs.List.{writeList};
-ghost use Rattle.aps_c.specs.Codes.{code, placed};
+ghost use Rattle.aps_c.specs.Codes.{code, placeLeft};
 ghost use Rattle.aps_c.specs.Numbers.{flagNumber};
-ghost use Rattle.aps_c.specs.TableCodes.{answerCode, countsIn, lookCode, setIn, flagsIn};
+ghost use Rattle.aps_c.specs.TableCodes.{answerCode, countsLeft, lookCode, setLeft, flagsLeft};
 
 // A unit that is neither taken nor refused.
 pub const PASSED_OVER: u32 = 256;
@@ -69,7 +69,7 @@ pub extern "C" fn aps_take_stream(
 ) -> u32
     ensures code { λ r. ⌜ r ≡ answerCode (answerTo (stream (now (bytes .entry)) (length (now (work .entry))))) ⌝ }
     ensures counts { λ _. ⌜ now (counts .exit)
-        ≡ countsIn (answerTo (stream (now (bytes .entry)) (length (now (work .entry))))) (now (counts .entry)) ⌝ }
+        ≡ countsLeft (answerTo (stream (now (bytes .entry)) (length (now (work .entry))))) (now (counts .entry)) ⌝ }
     ensures table { λ _. ⌜ now (table .exit) ≡ tableAfter (stream (now (bytes .entry)) (length (now (work .entry)))) (now (table .entry)) ⌝ }
     ensures work { λ _. ⌜ now (work .exit) ≡ workAfterStream (now (bytes .entry)) (now (work .entry)) ⌝ }
 {
@@ -86,7 +86,7 @@ pub extern "C" fn aps_take_stream(
 #[no_mangle]
 pub extern "C" fn aps_lookup(table: &Table, kind: u8, id: u8, set: &mut [i64; NUMBERS]) -> u32
     ensures code { λ r. ⌜ r ≡ lookCode (lookedUp (now (table .entry)) kind id) ⌝ }
-    ensures set { λ _. ⌜ now (set .exit) ≡ setIn (lookedUp (now (table .entry)) kind id) (now (set .entry)) ⌝ }
+    ensures set { λ _. ⌜ now (set .exit) ≡ setLeft (lookedUp (now (table .entry)) kind id) (now (set .entry)) ⌝ }
 {
     let found = lookup(table, kind, id);
     let outcome = found.outcome;
@@ -116,7 +116,7 @@ fn put_flags(chroma: bool, extension: bool, flags: &mut [u8; 2])
 #[no_mangle]
 pub extern "C" fn aps_lookup_flags(table: &Table, kind: u8, id: u8, flags: &mut [u8; 2]) -> u32
     ensures code { λ r. ⌜ r ≡ lookCode (lookedUp (now (table .entry)) kind id) ⌝ }
-    ensures flags { λ _. ⌜ now (flags .exit) ≡ flagsIn (lookedUp (now (table .entry)) kind id) (now (flags .entry)) ⌝ }
+    ensures flags { λ _. ⌜ now (flags .exit) ≡ flagsLeft (lookedUp (now (table .entry)) kind id) (now (flags .entry)) ⌝ }
 {
     let found = lookup(table, kind, id);
     let outcome = found.outcome;
@@ -135,7 +135,7 @@ pub extern "C" fn aps_lookup_flags(table: &Table, kind: u8, id: u8, flags: &mut 
 pub extern "C" fn aps_write_list(table: &Table, out: &mut [u8], len: &mut [u64; 1]) -> u32
     ensures code { λ r. ⌜ r ≡ code (writeList (now (table .entry)) (now (out .entry))) ⌝ }
     ensures out { λ _. ⌜ now (out .exit) ≡ left (now (out .entry)) (writeList (now (table .entry)) (now (out .entry))) ⌝ }
-    ensures len { λ _. ⌜ now (len .exit) ≡ placed (writeList (now (table .entry)) (now (out .entry))) (now (len .entry)) ⌝ }
+    ensures len { λ _. ⌜ now (len .exit) ≡ placeLeft (writeList (now (table .entry)) (now (out .entry))) (now (len .entry)) ⌝ }
 {
     sized(write_list(table, out), len)
 }

@@ -2,7 +2,7 @@
 use borrow.Author.Needs.{needs}
 use mathlib.Core.Path.{_∙_, ap}
 use Rattle.aps.specs.Reading.{outcomeRead}
-use Rattle.aps_c.proofs.CodeLaws.{code-value, code-refused, given-value, given-refused, placed-value, placed-refused}
+use Rattle.aps_c.proofs.CodeLaws.{code-value, code-refused, numbers-value, numbers-refused, place-value, place-refused}
 use Rattle.aps_c.proofs.answered.Statement.{statement}
 use Rattle.aps_c.proofs.answered.Tie as tie
 
@@ -25,13 +25,13 @@ returns : tie.Need-returns
 returns c =
     let a = c .before .before .before .before .before .args in
     let o = ap (λ x. outcomeRead x (a .reading .set)) (c .before .before .before .outcome .given .1) in
-    (code-value o, (c .put-set .ensures .holds ∙ given-value (a .set .now) o, placed-value (a .end .now) o))
+    (code-value o, (c .put-set .ensures .holds ∙ numbers-value (a .set .now) o, place-value (a .end .now) o))
 
 returns-2 : tie.Need-returns-2
 returns-2 c =
     let a = c .before .before .before .before .args in
     let o = ap (λ x. outcomeRead x (a .reading .set)) (c .before .before .outcome2 .given .1) in
-    (c .number .ensures ∙ code-refused o, (given-refused (a .set .now) o, placed-refused (a .end .now) o))
+    (c .number .ensures ∙ code-refused o, (numbers-refused (a .set .now) o, place-refused (a .end .now) o))
 
 pub answered-spec : {M : Type 1} → statement M
 answered-spec =

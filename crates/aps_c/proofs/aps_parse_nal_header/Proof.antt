@@ -2,7 +2,7 @@
 use borrow.Author.Needs.{needs}
 use mathlib.Core.Path.{_∙_, ap, sym}
 use Rattle.aps.specs.Unit.{outcomeH}
-use Rattle.aps_c.proofs.CodeLaws.{code-value, code-refused, headed-value, headed-refused}
+use Rattle.aps_c.proofs.CodeLaws.{code-value, code-refused, header-value, header-refused}
 use Rattle.aps_c.proofs.aps_parse_nal_header.Statement.{statement}
 use Rattle.aps_c.proofs.aps_parse_nal_header.Tie as tie
 
@@ -25,13 +25,13 @@ returns : tie.Need-returns
 returns c =
     let a = c .before .before .before .before .before .before .before .args in
     let o = sym (c .before .before .before .before .before .parse-nal-header .ensures) ∙ ap outcomeH (c .before .before .before .h .given .1) in
-    (code-value o, c .put-header .ensures ∙ headed-value (a .header .now) o)
+    (code-value o, c .put-header .ensures ∙ header-value (a .header .now) o)
 
 returns-2 : tie.Need-returns-2
 returns-2 c =
     let a = c .before .before .before .before .before .before .args in
     let o = sym (c .before .before .before .before .parse-nal-header .ensures) ∙ ap outcomeH (c .before .before .e .given .1) in
-    (c .number .ensures ∙ code-refused o, headed-refused (a .header .now) o)
+    (c .number .ensures ∙ code-refused o, header-refused (a .header .now) o)
 
 pub aps-parse-nal-header-spec : {M : Type 1} → statement M
 aps-parse-nal-header-spec =

@@ -2,7 +2,7 @@
 use borrow.Author.Needs.{needs}
 use mathlib.Core.Path.{_∙_, ap, sym}
 use Rattle.aps.specs.Reading.{outcomeRead}
-use Rattle.aps_c.proofs.CodeLaws.{code-value, code-refused, placed-value, placed-refused}
+use Rattle.aps_c.proofs.CodeLaws.{code-value, code-refused, place-value, place-refused}
 use Rattle.aps_c.proofs.aps_rbsp_end.Statement.{statement}
 use Rattle.aps_c.proofs.aps_rbsp_end.Tie as tie
 
@@ -25,13 +25,13 @@ returns : tie.Need-returns
 returns c =
     let r = c .before .before .before .parse-aps-rbsp in
     let o = sym (r .ensures .0) ∙ ap (λ x. outcomeRead x (r .result .set)) (c .before .outcome .given .1) in
-    (code-value o, placed-value (c .before .before .before .before .before .args .end .now) o)
+    (code-value o, place-value (c .before .before .before .before .before .args .end .now) o)
 
 returns-2 : tie.Need-returns-2
 returns-2 c =
     let r = c .before .before .before .before .parse-aps-rbsp in
     let o = sym (r .ensures .0) ∙ ap (λ x. outcomeRead x (r .result .set)) (c .before .before .outcome2 .given .1) in
-    (c .number .ensures ∙ code-refused o, placed-refused (c .before .before .before .before .before .before .args .end .now) o)
+    (c .number .ensures ∙ code-refused o, place-refused (c .before .before .before .before .before .before .args .end .now) o)
 
 pub aps-rbsp-end-spec : {M : Type 1} → statement M
 aps-rbsp-end-spec =

@@ -2,7 +2,7 @@
 use borrow.Author.Needs.{needs}
 use mathlib.Core.Path.{_∙_, ap, sym}
 use Rattle.aps.specs.Reading.{outcomeRead}
-use Rattle.aps_c.proofs.CodeLaws.{code-value, code-refused, placed-value, placed-refused}
+use Rattle.aps_c.proofs.CodeLaws.{code-value, code-refused, place-value, place-refused}
 use Rattle.aps_c.proofs.aps_unit_end.Statement.{statement}
 use Rattle.aps_c.proofs.aps_unit_end.Tie as tie
 
@@ -30,7 +30,7 @@ returns c =
     let a = p .before .before .before .before .args in
     let r = p .parse-aps in
     let o = sym (r .ensures .0) ∙ ap (λ x. outcomeRead x (r .result .set)) (c .before .outcome .given .1) in
-    (code-value o, (placed-value (a .end .now) o, r .ensures .1 .1))
+    (code-value o, (place-value (a .end .now) o, r .ensures .1 .1))
 
 same-length-2 : tie.Need-same-length-2
 same-length-2 c = search needs
@@ -41,7 +41,7 @@ returns-2 c =
     let a = p .before .before .before .before .args in
     let r = p .parse-aps in
     let o = sym (r .ensures .0) ∙ ap (λ x. outcomeRead x (r .result .set)) (c .before .before .outcome2 .given .1) in
-    (c .number .ensures ∙ code-refused o, (placed-refused (a .end .now) o, r .ensures .1 .1))
+    (c .number .ensures ∙ code-refused o, (place-refused (a .end .now) o, r .ensures .1 .1))
 
 pub aps-unit-end-spec : {M : Type 1} → statement M
 aps-unit-end-spec =

@@ -2,7 +2,7 @@
 use borrow.Author.Needs.{needs}
 use mathlib.Core.Path.{_∙_, ap}
 use Rattle.bitstream.specs.Escapes.{outcomeSize}
-use Rattle.aps_c.proofs.CodeLaws.{code-value, code-refused, placed-value, placed-refused}
+use Rattle.aps_c.proofs.CodeLaws.{code-value, code-refused, place-value, place-refused}
 use Rattle.aps_c.proofs.sized.Statement.{statement}
 use Rattle.aps_c.proofs.sized.Tie as tie
 
@@ -22,13 +22,13 @@ returns : tie.Need-returns
 returns c =
     let n = c .before .before .before .args .len .now in
     let e = c .before .size .given .1 in
-    (λ l. code-value (ap (λ x. outcomeSize x l) e), λ l. placed-value n (ap (λ x. outcomeSize x l) e))
+    (λ l. code-value (ap (λ x. outcomeSize x l) e), λ l. place-value n (ap (λ x. outcomeSize x l) e))
 
 returns-2 : tie.Need-returns-2
 returns-2 c =
     let n = c .before .before .before .before .args .len .now in
     let e = c .before .before .size2 .given .1 in
-    (λ l. c .number .ensures ∙ code-refused (ap (λ x. outcomeSize x l) e), λ l. placed-refused n (ap (λ x. outcomeSize x l) e))
+    (λ l. c .number .ensures ∙ code-refused (ap (λ x. outcomeSize x l) e), λ l. place-refused n (ap (λ x. outcomeSize x l) e))
 
 pub sized-spec : {M : Type 1} → statement M
 sized-spec =

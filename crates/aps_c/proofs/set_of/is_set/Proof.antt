@@ -10,12 +10,12 @@ returns : tie.Need-returns
 unfolding isSet
 returns c = rw (ne-eqb (length (c .before .args .src .now)) 3122 (c .if1 .taken))
 
-held-fields-requires : tie.Need-held-fields-requires
-held-fields-requires c κs = search needs
+fits-fields-requires : tie.Need-fits-fields-requires
+fits-fields-requires c κs = search needs
 
 returns-2 : tie.Need-returns-2
 unfolding isSet
-returns-2 c = rw (eq-eqb (length (c .before .before .args .src .now)) 3122 (c .before .if1 .left)) (c .held-fields .ensures)
+returns-2 c = rw (eq-eqb (length (c .before .before .args .src .now)) 3122 (c .before .if1 .left)) (c .fits-fields .ensures)
 
 pub is-set-spec : {M : Type 1} → statement M
-is-set-spec = tie.close (tie.spec returns held-fields-requires returns-2)
+is-set-spec = tie.close (tie.spec returns fits-fields-requires returns-2)

@@ -19,20 +19,20 @@ returns-2 c =
     integer-out (s .args .x) (above (negsuc 2147483647) (pos 2147483647) (s .args .x) (rw (toZ-ofZ (s .fits .x)) at (c .before .if1 .left)) (rw (toZ-ofZ (s .fits .x)) at (c .if2 .taken)))
 
 module _ (c : tie.Else2) where
-  held : between (negsuc 2147483647) (pos 2147483647) (c .before .before .args .x) ≡ true
-  held =
+  fits : between (negsuc 2147483647) (pos 2147483647) (c .before .before .args .x) ≡ true
+  fits =
       let s = c .before .before in
       inside (negsuc 2147483647) (pos 2147483647) (s .args .x) (rw (toZ-ofZ (s .fits .x)) at (c .before .if1 .left)) (rw (toZ-ofZ (s .fits .x)) at (c .if2 .left))
 
 cast-result : tie.Need-cast-result
 cast-result c =
     let s = c .before .before in
-    rw (toZ-ofZ (s .fits .x)) (integer-fits (s .args .x) (held c))
+    rw (toZ-ofZ (s .fits .x)) (integer-fits (s .args .x) (fits c))
 
 returns-3 : tie.Need-returns-3
 returns-3 c =
     let s = c .before .before in
-    rw (toZ-ofZ (s .fits .x), toZ-ofZ (integer-fits (s .args .x) (held c))) (integer-in (s .args .x) (held c))
+    rw (toZ-ofZ (s .fits .x), toZ-ofZ (integer-fits (s .args .x) (fits c))) (integer-in (s .args .x) (fits c))
 
 pub to-i32-spec : {M : Type 1} → statement M
 to-i32-spec = tie.close (tie.spec returns returns-2 cast-result returns-3)

@@ -20,20 +20,20 @@ returns-2 c =
     natural-out 255 (s .args .x) (above (pos 0) (pos 255) (s .args .x) (rw (toZ-ofZ (s .fits .x)) at (c .before .if1 .left)) (rw (toZ-ofZ (s .fits .x)) at (c .if2 .taken)))
 
 module _ (c : tie.Else2) where
-  held : between (pos 0) (pos 255) (c .before .before .args .x) ≡ true
-  held =
+  fits : between (pos 0) (pos 255) (c .before .before .args .x) ≡ true
+  fits =
       let s = c .before .before in
       inside (pos 0) (pos 255) (s .args .x) (rw (toZ-ofZ (s .fits .x)) at (c .before .if1 .left)) (rw (toZ-ofZ (s .fits .x)) at (c .if2 .left))
 
 cast-result : tie.Need-cast-result
 cast-result c =
     let s = c .before .before in
-    rw (toZ-ofZ (s .fits .x)) (natural-sign 255 (s .args .x) (held c), record { fits = omega (arith, natural-small 255 (s .args .x) (held c)) })
+    rw (toZ-ofZ (s .fits .x)) (natural-sign 255 (s .args .x) (fits c), record { fits = omega (arith, natural-small 255 (s .args .x) (fits c)) })
 
 returns-3 : tie.Need-returns-3
 returns-3 c =
     let s = c .before .before in
-    rw (toZ-ofZ (s .fits .x)) (natural-in 255 (s .args .x) (held c))
+    rw (toZ-ofZ (s .fits .x)) (natural-in 255 (s .args .x) (fits c))
 
 pub to-u8-spec : {M : Type 1} → statement M
 to-u8-spec = tie.close (tie.spec returns returns-2 cast-result returns-3)

@@ -2,7 +2,7 @@
 use borrow.Author.Needs.{needs}
 use mathlib.Core.Path.{_∙_, ap, sym}
 use Rattle.aps_table.specs.Answers.{lookupSays}
-use Rattle.aps_c.specs.TableCodes.{lookCode, setIn}
+use Rattle.aps_c.specs.TableCodes.{lookCode, setLeft}
 use Rattle.aps_c.proofs.table.aps_lookup.Statement.{statement}
 use Rattle.aps_c.proofs.table.aps_lookup.Tie as tie
 
@@ -22,20 +22,20 @@ number-requires : tie.Need-number-requires
 number-requires c κs = search needs
 
 returns : tie.Need-returns
-unfolding lookCode setIn
+unfolding lookCode setLeft
 returns c =
     let l = c .before .before .before .before in
     let r = l .lookup in
     let o = sym (ap (λ x. lookupSays x (r .result .set)) (c .before .before .enum-told .given .1)) ∙ r .ensures .0 in
-    (ap lookCode o, c .put-set .ensures .holds ∙ ap (λ x. setIn x (l .before .args .set .now)) o)
+    (ap lookCode o, c .put-set .ensures .holds ∙ ap (λ x. setLeft x (l .before .args .set .now)) o)
 
 returns-2 : tie.Need-returns-2
-unfolding lookCode setIn
+unfolding lookCode setLeft
 returns-2 c =
     let l = c .before .before .before .before in
     let r = l .lookup in
     let o = sym (ap (λ x. lookupSays x (r .result .set)) (c .before .before .outcome .given .1)) ∙ r .ensures .0 in
-    (c .number .ensures ∙ ap lookCode o, ap (λ x. setIn x (l .before .args .set .now)) o)
+    (c .number .ensures ∙ ap lookCode o, ap (λ x. setLeft x (l .before .args .set .now)) o)
 
 pub aps-lookup-spec : {M : Type 1} → statement M
 aps-lookup-spec =

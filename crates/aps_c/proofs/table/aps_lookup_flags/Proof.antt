@@ -2,7 +2,7 @@
 use borrow.Author.Needs.{needs}
 use mathlib.Core.Path.{_∙_, ap, sym}
 use Rattle.aps_table.specs.Answers.{lookupSays}
-use Rattle.aps_c.specs.TableCodes.{lookCode, flagsIn}
+use Rattle.aps_c.specs.TableCodes.{lookCode, flagsLeft}
 use Rattle.aps_c.proofs.table.aps_lookup_flags.Statement.{statement}
 use Rattle.aps_c.proofs.table.aps_lookup_flags.Tie as tie
 
@@ -22,20 +22,20 @@ number-requires : tie.Need-number-requires
 number-requires c κs = search needs
 
 returns : tie.Need-returns
-unfolding lookCode flagsIn
+unfolding lookCode flagsLeft
 returns c =
     let l = c .before .before .before .before .before in
     let r = l .lookup in
     let o = sym (ap (λ x. lookupSays x (r .result .set)) (c .before .before .enum-told .given .1)) ∙ r .ensures .0 in
-    (ap lookCode o, c .put-flags .ensures ∙ ap (λ x. flagsIn x (l .before .args .flags .now)) o)
+    (ap lookCode o, c .put-flags .ensures ∙ ap (λ x. flagsLeft x (l .before .args .flags .now)) o)
 
 returns-2 : tie.Need-returns-2
-unfolding lookCode flagsIn
+unfolding lookCode flagsLeft
 returns-2 c =
     let l = c .before .before .before .before .before in
     let r = l .lookup in
     let o = sym (ap (λ x. lookupSays x (r .result .set)) (c .before .before .outcome .given .1)) ∙ r .ensures .0 in
-    (c .number .ensures ∙ ap lookCode o, ap (λ x. flagsIn x (l .before .args .flags .now)) o)
+    (c .number .ensures ∙ ap lookCode o, ap (λ x. flagsLeft x (l .before .args .flags .now)) o)
 
 pub aps-lookup-flags-spec : {M : Type 1} → statement M
 aps-lookup-flags-spec =

@@ -1,33 +1,33 @@
--- `held_head`: the tests of the definition, in its order.
+-- `fits_head`: the tests of the definition, in its order.
 use borrow.Author.Needs.{needs}
-use Rattle.aps_c.specs.SetOf.{heldHead}
+use Rattle.aps_c.specs.SetOf.{fitsHead}
 use Rattle.aps_c.proofs.TakeLaws.{stops, passes}
-use Rattle.aps_c.proofs.set_of.held_head.Statement.{statement}
-use Rattle.aps_c.proofs.set_of.held_head.Tie as tie
+use Rattle.aps_c.proofs.set_of.fits_head.Statement.{statement}
+use Rattle.aps_c.proofs.set_of.fits_head.Tie as tie
 
 in-range-requires : tie.Need-in-range-requires
 in-range-requires c κs = search needs
 
 returns : tie.Need-returns
-unfolding heldHead
+unfolding fitsHead
 returns c = stops _ (c .if1 .taken) (c .before .in-range .ensures)
 
 in-range-requires-2 : tie.Need-in-range-requires-2
 in-range-requires-2 c κs = search needs
 
 returns-2 : tie.Need-returns-2
-unfolding heldHead
+unfolding fitsHead
 returns-2 c = passes (c .before .before .if1 .left) (c .before .before .before .in-range .ensures) (stops _ (c .if2 .taken) (c .before .in-range2 .ensures))
 
 in-range-requires-3 : tie.Need-in-range-requires-3
 in-range-requires-3 c κs = search needs
 
 returns-3 : tie.Need-returns-3
-unfolding heldHead
+unfolding fitsHead
 returns-3 c = passes (c .before .before .before .if1 .left) (c .before .before .before .before .in-range .ensures) (passes (c .before .if2 .left) (c .before .before .in-range2 .ensures) (c .in-range3 .ensures))
 
-pub held-head-spec : {M : Type 1} → statement M
-held-head-spec =
+pub fits-head-spec : {M : Type 1} → statement M
+fits-head-spec =
     tie.close
     (tie.spec
     in-range-requires
