@@ -15,6 +15,7 @@ use crate::put::put_u;
 use crate::scaling_list::VvcScalingListData;
 use crate::scaling_list_write::write_scaling_list_data;
 use crate::unit::is_aps;
+use bitstream::LONGEST_INPUT;
 use bitstream::Refusal;
 use bitstream::bit_writer::Written;
 use bitstream::bit_writer::write_rbsp_trailing_bits;
@@ -22,14 +23,13 @@ use bitstream::nal::Size;
 use bitstream::nal::rbsp_to_ebsp;
 ghost use mathlib.Core.Path.{_≡_};
 ghost use mathlib.Core.Bool.{false};
-ghost use Prim.Native.Nat.{_≤_, _<_};
 ghost use lib.ListN.{length};
 ghost use Rattle.bitstream.specs.Outcome.{left};
 ghost use Rattle.bitstream.specs.Escapes.{outcomeSize, putBytes};
 ghost use Rattle.aps.specs.ApsSyntax.{ofAlf, ofLmcs, ofScaling, payload, aps};
 ghost use Rattle.aps.specs.ScalingSyntax.{look};
 ghost use Rattle.aps.specs.Inner.{StopsBy, Wrote, firstBytes};
-ghost use Rattle.aps.specs.Writing.{bytesDue, unitOf, writeAps, writeApsNal};
+ghost use Rattle.aps.specs.Writing.{bytesDue, writeAps, writeNal, writeApsNal};
 
 // The payload of each kind; its id is judged before a bit is written.
 fn put_alf_payload(out: &mut [u8], from: Stop, id: u8, chroma: bool, d: VvcAlfData) -> Stop
@@ -136,16 +136,21 @@ pub fn copy_out(bytes: &[u8], out: &mut [u8]) -> Size
     Size::Bytes(bytes.len())
 }
 
-// A unit put at the start of the output if it has room for it.
-fn unit_out(bytes: &[u8], unit_type: u8, out: &mut [u8]) -> Size
-    requires { ⌜ (length (now bytes) ≤ 4096) × («unit_type» < 32) ⌝ }
-    ensures answer { λ r. ⌜ outcomeSize r (now (out .exit)) ≡ putBytes (now (out .entry)) (unitOf «unit_type» (now (bytes .entry))) ⌝ }
-    ensures bytes { λ _. ⌜ now (out .exit) ≡ left (now (out .entry)) (putBytes (now (out .entry)) (unitOf «unit_type» (now (bytes .entry)))) ⌝ }
+// An RBSP as a unit: its header, then the RBSP with escapes put in. 2: the unit's type; 4; 5.
+pub fn write_nal(rbsp: &[u8], unit_type: u8, out: &mut [u8]) -> Size
+    ensures answer { λ r. ⌜ outcomeSize r (now (out .exit)) ≡ writeNal (now (rbsp .entry)) «unit_type» (now (out .entry)) ⌝ }
+    ensures bytes { λ _. ⌜ now (out .exit) ≡ left (now (out .entry)) (writeNal (now (rbsp .entry)) «unit_type» (now (out .entry))) ⌝ }
 {
+    if !is_aps(unit_type) {
+        return Size::Refused(Refusal::InvalidData);
+    }
+    if LONGEST_INPUT < rbsp.len() {
+        return Size::Refused(Refusal::InputTooLong);
+    }
     if out.len() < 2 {
         return Size::Refused(Refusal::OutputTooShort);
     }
-    match rbsp_to_ebsp(bytes, &mut out[2..]) {
+    match rbsp_to_ebsp(rbsp, &mut out[2..]) {
         Size::Bytes(n) => {
             out[0] = 0;
             out[1] = unit_type * 8 + 1;
@@ -177,7 +182,7 @@ pub fn write_aps_nal(set: VvcAps, unit_type: u8, out: &mut [u8]) -> Size
     }
     let mut buffer = [0u8; 4096];
     match write_rbsp(set, &mut buffer) {
-        Size::Bytes(n) => unit_out(&buffer[..n], unit_type, out),
+        Size::Bytes(n) => write_nal(&buffer[..n], unit_type, out),
         Size::Refused(why) => Size::Refused(why),
     }
 }
