@@ -6,6 +6,7 @@ use crate::aps::ApsKind;
 use crate::aps::Lmcs;
 use crate::aps::Scaling;
 use crate::aps::VvcAps;
+use crate::aps::number_of;
 use crate::fields::Stop;
 use crate::lmcs::VvcLmcsData;
 use crate::lmcs_write::write_lmcs_data;
@@ -26,12 +27,14 @@ ghost use mathlib.Core.Bool.{false};
 ghost use lib.ListN.{length};
 ghost use Rattle.bitstream.specs.Outcome.{left};
 ghost use Rattle.bitstream.specs.Escapes.{outcomeSize, putBytes};
+ghost use Rattle.aps.specs.Codec.{u, _▷_};
+ghost use Rattle.aps.specs.Elements.{flag};
 ghost use Rattle.aps.specs.ApsSyntax.{ofAlf, ofLmcs, ofScaling, payload, aps};
 ghost use Rattle.aps.specs.ScalingSyntax.{look};
 ghost use Rattle.aps.specs.Inner.{StopsBy, Wrote, firstBytes};
 ghost use Rattle.aps.specs.Writing.{bytesDue, writeAps, writeNal, writeApsNal};
 
-// The payload of each kind; its id is judged before a bit is written.
+// The payload of each kind; an id that the kind does not have is refused before a bit of the payload is written.
 fn put_alf_payload(out: &mut [u8], from: Stop, id: u8, chroma: bool, d: VvcAlfData) -> Stop
     requires { ⌜ (length (now out) ≡ 4096) × StopsBy from 100 ⌝ }
     ensures { λ r. ⌜ Wrote (payload 0 id chroma) (ofAlf d) 31248 from r (now (out .entry)) (now (out .exit)) ⌝ }
@@ -68,6 +71,16 @@ fn put_scaling_payload(
     write_scaling_list_data(out, from, chroma, d)
 }
 
+// What stands before the payload: the kind's number, id and chroma flag.
+fn put_head(out: &mut [u8], kind: u8, id: u8, chroma: bool) -> Stop
+    requires { ⌜ length (now out) ≡ 4096 ⌝ }
+    ensures { λ r. ⌜ Wrote (u 3 ▷ λ k. u 5 ▷ λ i. flag) (kind, (id, chroma)) 9 (Stop.End 0) r (now (out .entry)) (now (out .exit)) ⌝ }
+{
+    let a = put_u(out, Stop::End(0), kind as u32, 3);
+    let b = put_u(out, a, id as u32, 5);
+    put_flag(out, b, chroma)
+}
+
 // A set up to its extension flag, which is 0.
 fn put_set(out: &mut [u8], set: VvcAps) -> Stop
     requires { ⌜ (length (now out) ≡ 4096) × (set .«aps_extension_flag» ≡ false) ⌝ }
@@ -76,28 +89,19 @@ fn put_set(out: &mut [u8], set: VvcAps) -> Stop
     let kind = set.kind;
     let id = set.aps_adaptation_parameter_set_id;
     let chroma = set.aps_chroma_present_flag;
-    let start = Stop::End(0);
+    let head = put_head(out, number_of(kind), id, chroma);
     let payload = match kind {
         ApsKind::Alf => {
-            let a = put_u(out, start, Alf::NUMBER as u32, 3);
-            let b = put_u(out, a, id as u32, 5);
-            let c = put_flag(out, b, chroma);
             let d = set.alf;
-            put_alf_payload(out, c, id, chroma, d)
+            put_alf_payload(out, head, id, chroma, d)
         }
         ApsKind::Lmcs => {
-            let a = put_u(out, start, Lmcs::NUMBER as u32, 3);
-            let b = put_u(out, a, id as u32, 5);
-            let c = put_flag(out, b, chroma);
             let d = set.lmcs;
-            put_lmcs_payload(out, c, id, chroma, d)
+            put_lmcs_payload(out, head, id, chroma, d)
         }
         ApsKind::Scaling => {
-            let a = put_u(out, start, Scaling::NUMBER as u32, 3);
-            let b = put_u(out, a, id as u32, 5);
-            let c = put_flag(out, b, chroma);
             let d = set.scaling;
-            put_scaling_payload(out, c, id, chroma, d)
+            put_scaling_payload(out, head, id, chroma, d)
         }
     };
     put_flag(out, payload, false)
