@@ -20,8 +20,9 @@ use Rattle.aps_table.specs.Taking.{Verdict, accept, pass, refuse, verdic
 use Rattle.aps_table.specs.Calls.{Call, stream, alone, unitsTaken}
 use Rattle.aps_table.specs.List.{isExtended, anyExtended, joined, listed, listDue}
 use Rattle.aps_table.specs.Book.{noEntries, replace, note, noteUnits, noteTaken, enter, enters, book}
+use Rattle.aps_table.specs.Inner.{mostListed}
 use Rattle.aps_table.proofs.SplitLaws.{AllFit, split-framed}
-use Rattle.aps_table.proofs.UnitLaws.{entryMost, accepted-read, Written, unit-written}
+use Rattle.aps_table.proofs.UnitLaws.{accepted-read, Written, unit-written}
 use Rattle.aps_table.proofs.BookLaws.{In, in-names, Agree}
 
 -- ---- what a book holds came from units, and stands under its own kind and id
@@ -135,7 +136,7 @@ over-same (n ∷ ns) b x k i h = over-same ns b (fill (n .0) (n .1) (b (n .0) (n
 -- the bytes of the entries under the names at the most
 total : List (ℕ × ℕ) → ℕ
 total [] = 0
-total (n ∷ ns) = entryMost (n .0) + total ns
+total (n ∷ ns) = mostListed (n .0) + total ns
 
 total-names : total names ≤ 65536
 unfolding total
@@ -170,7 +171,7 @@ list-of (n ∷ ns) b h f =
     go (some a) q g R =
         let H : Came (n .0) (n .1) a = h (n .0) (n .1) a q in
         let W : Written a = unit-written (H .rbsp) a (H .end) (H .read) (rw q at g) in
-        let s : 4 + length (W .unit) ≤ entryMost (n .0) = rw (H .kind-is) at (W .small) in
+        let s : 4 + length (W .unit) ≤ mostListed (n .0) = rw (H .kind-is) at (W .small) in
         record {
           us = W .unit ∷ R .us;
           listed-is = rw (q, W .due, R .listed-is) (joined-value (0 ∷ 0 ∷ 0 ∷ 1 ∷ W .unit) (framed (R .us)));

@@ -4,7 +4,7 @@ use mathlib.Core.Path.{_≡_, refl, sym, ap, _∙_}
 use mathlib.Core.Bool.{Bool, true, false, cond, _&&_, _||_}
 use mathlib.Core.List.{List, [], _∷_, _++_, append-assoc, append-nil}
 use mathlib.Core.Option.{Option, none, some}
-use Prim.Native.Nat.{ℕ, zero, suc, _+_, _*_, _/_, _≤_}
+use Prim.Native.Nat.{ℕ, zero, suc, _+_, _≤_}
 use native.Mathlib.Nat.{add-zero, zero-add, add-assoc}
 use native.Mathlib.Numerals.{add-one}
 use native.Mathlib.Omega.{arith}
@@ -12,7 +12,6 @@ use lib.Dec.{eqb}
 use lib.ListN.{length}
 use Rattle.bitstream.specs.Outcome.{Outcome, value, refused, _then_}
 use Rattle.bitstream.proofs.EscapeLaws.{escape-most}
-use Rattle.aps.specs.Kinds.{mostBytes}
 use Rattle.aps.specs.ApsSyntax.{numberOf, aps}
 use Rattle.aps.specs.Rbsp.{readRbsp, rbspBytes}
 use Rattle.aps.specs.declared.aps.ApsKind.{ApsKind}
@@ -22,7 +21,8 @@ use Rattle.aps.proofs.RbspLaws.{rbsp-sound, rbsp-most}
 use Rattle.aps.specs.Writing.{bytesDue, unitOf}
 use Rattle.aps.proofs.RbspWrites.{due-taken, taken-due}
 use Rattle.aps_table.specs.Places.{Entries, ids, names, kindIn, idIn, extended, placeBytes, under, held}
-use Rattle.aps_table.specs.List.{coded, entry, entryDue, joined, listed, isExtended, anyExtended, listDue, listAt}
+use Rattle.aps_table.specs.List.{coded, entry, entryDue, joined, listed, isExtended, anyExtended, listDue}
+use Rattle.aps_table.specs.Inner.{mostListed, listAt}
 
 -- ---- joined
 
@@ -128,16 +128,16 @@ listed-due t = go (anyExtended names (held t)) refl
 
 -- ---- the most bytes
 
--- of a unit
-pub unit-most : (a : VvcAps) (l : List ℕ) (n : ℕ) → bytesDue a ≡ value l n → length (unitOf 17 l) ≤ 2 + mostBytes (numberOf (a .kind)) * 3 / 2
+-- of a unit after its start code
+pub unit-most : (a : VvcAps) (l : List ℕ) (n : ℕ) → bytesDue a ≡ value l n → 4 + length (unitOf 17 l) ≤ mostListed (numberOf (a .kind))
 unfolding unitOf
 unit-most a l n e =
     let (x, o, w, m) = taken-due a l n e in
     omega (arith, escape-most l, rbsp-most a o, ap length w)
 
 -- of an entry
-pub entry-most : (a : VvcAps) (l : List ℕ) (n : ℕ) → entryDue a ≡ value l n → n ≤ 6 + mostBytes (numberOf (a .kind)) * 3 / 2
-unfolding entryDue
+pub entry-most : (a : VvcAps) (l : List ℕ) (n : ℕ) → entryDue a ≡ value l n → n ≤ mostListed (kindIn a)
+unfolding entryDue kindIn
 entry-most a l n e =
     let (k, m, d, w) = then-value (bytesDue a) (λ bytes n. value (coded bytes) (length (coded bytes))) e in
     let v : length (coded k) ≡ n = cc in
@@ -148,7 +148,7 @@ pub entry-fits : (a : VvcAps) (l : List ℕ) (n i p : ℕ) → entryDue a ≡ va
 unfolding kindIn
 entry-fits a l n i p e h = go (a .kind) (entry-most a l n e) h
   where
-    go : (k : ApsKind) → n ≤ 6 + mostBytes (numberOf k) * 3 / 2 → p ≤ listAt (numberOf k) i → p + n ≤ listAt (numberOf k) (i + 1)
+    go : (k : ApsKind) → n ≤ mostListed (numberOf k) → p ≤ listAt (numberOf k) i → p + n ≤ listAt (numberOf k) (i + 1)
     go ApsKind.Alf m h = omega arith
     go ApsKind.Lmcs m h = omega arith
     go ApsKind.Scaling m h = omega arith
