@@ -11,7 +11,7 @@ use lib.Dec.{leb, eqb}
 use Rattle.bitstream.specs.Outcome.{Outcome, value, refused}
 use Rattle.aps.specs.Kinds.{largestId}
 use Rattle.aps.specs.declared.aps.VvcAps.{VvcAps}
-use Rattle.aps_table.specs.Places.{Names, ids, names, Entries, kindIn, idIn, extended}
+use Rattle.aps_table.specs.Places.{Names, ids, names, filledAmong, Entries, kindIn, idIn, extended}
 use Rattle.aps_table.specs.Taking.{Verdict, accept, pass, refuse, verdict}
 use Rattle.aps_table.specs.Calls.{Call, stream, alone, unitsTaken}
 use Rattle.aps_table.specs.List.{isExtended, anyExtended, listed, listDue}
@@ -151,6 +151,12 @@ listed-agree (n ∷ ns) a b m h = rw (h (n .0) (n .1) (m .0), listed-agree ns a 
 pub list-agree : (a b : Entries) → Agree a b → listDue a ≡ listDue b
 unfolding listDue
 list-agree a b h = rw (any-agree names a b all-names h, listed-agree names a b all-names h)
+
+-- and as many sets
+pub filled-agree : (ns : List (ℕ × ℕ)) (a b : Entries) → AllNames ns → Agree a b → filledAmong ns a ≡ filledAmong ns b
+unfolding filledAmong AllNames
+filled-agree [] a b m h = refl
+filled-agree (n ∷ ns) a b m h = rw (h (n .0) (n .1) (m .0), filled-agree ns a b (m .1) h)
 
 -- ---- extension flags
 

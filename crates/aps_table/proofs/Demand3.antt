@@ -14,13 +14,13 @@ use Rattle.aps.specs.Unit.{rbspOf}
 use Rattle.aps.proofs.UnitWrites.{not-copied}
 use Rattle.aps_table.specs.Places.{named, names, placeAt, tableBytes, newTable, Entries, kindIn, idIn, held, missing, foundIn, lookupIn}
 use Rattle.aps_table.specs.Taking.{Verdict, accept, pass, refuse, verdict, put, takeUnit, takeUnits}
-use Rattle.aps_table.specs.Calls.{Call, stream, alone, Answer, counting, unitsTaken, afterUnits, tableAfter, answerTo}
+use Rattle.aps_table.specs.Calls.{Call, stream, alone, Answer, counted, counting, unitsTaken, afterUnits, tableAfter, answerTo}
 use Rattle.aps_table.specs.List.{anyExtended, listDue, writeList}
 use Rattle.aps_table.specs.Book.{noEntries, note, noteUnits, noteTaken, enter, enters, book, lastAccepted}
 use Rattle.aps_table.specs.Demand3.{runs, says, after, Alike, readBack, Cut, Demand3}
 use Rattle.aps_table.proofs.StoreLaws.{stored, new-length, new-none}
 use Rattle.aps_table.proofs.UnitLaws.{accepted-read}
-use Rattle.aps_table.proofs.BookLaws.{in-names, all-names, book-last, Agree, agree-units, agree-enters, list-agree, none-extended, one-extended}
+use Rattle.aps_table.proofs.BookLaws.{in-names, all-names, book-last, Agree, agree-units, agree-enters, list-agree, filled-agree, none-extended, one-extended}
 use Rattle.aps_table.proofs.CutLaws.{held-book, ReadBack, read-back}
 
 -- ---- the places follow the book
@@ -146,6 +146,9 @@ module _ (cs : List Call) (l : List ℕ) (R : ReadBack (book cs) l) where
     room = λ out h. written out ∙ put-room l out h;
     no-room = λ out h. written out ∙ sym (not-copied out l h .0);
     no-work = λ n h. (ap (counting n) (R .no-work n h), ap (λ (o : Outcome (List (List ℕ))). afterUnits n o newTable) (R .no-work n h));
+    accepted = λ n h.
+        R .accepted n h
+        ∙ ap (λ (m : ℕ). counted (record { accepted = m; refused = 0; passed = 0 })) (sym (filled-agree names (held (after cs)) (book cs) all-names (after-book cs)));
     looks = λ n h k i. lookup-agree (held (readBack l n)) (lastAccepted cs) (λ k i m. back-agree n h k i m ∙ book-last cs k i) k i;
     alike = λ n h. agree-alike (after cs) (readBack l n) (both-agree n h);
     further = λ n h ds. (

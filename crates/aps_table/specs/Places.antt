@@ -75,6 +75,20 @@ under k i (refused n) = none
 unfoldable pub held : List ℕ → Entries
 held t k i = under k i (readRbsp (placeBytes t k i))
 
+-- one set or none
+abbrev pub present : Option VvcAps → ℕ
+present none = 0
+present (some a) = 1
+
+-- how many of the names have a set
+unfoldable pub filledAmong : List (ℕ × ℕ) → Entries → ℕ
+filledAmong [] b = 0
+filledAmong (n ∷ ns) b = present (b (n .0) (n .1)) + filledAmong ns b
+
+-- how many of the 20 places are filled
+abbrev pub filled : Entries → ℕ
+filled b = filledAmong names b
+
 -- ---- the lookup
 
 pub data Looked : Type 0 where
