@@ -1,8 +1,8 @@
 -- A set's payload, the set, and its RBSP.
 use borrow.Author.Tests.{le-leb, lt-leb}
 use mathlib.Core.Path.{_≡_, refl, sym, ap, _∙_}
-use mathlib.Core.Bool.{Bool, true, false, cond, and-false}
-use mathlib.Core.List.{List}
+use mathlib.Core.Bool.{Bool, true, false, cond, _&&_, and-false}
+use mathlib.Core.List.{List, _++_, append-assoc}
 use Prim.Native.Nat.{ℕ, _+_, _-_, _/_, _%_, _≤_, _<_}
 use native.Mathlib.Nat.{zero-add}
 use native.Mathlib.Omega.{arith}
@@ -18,7 +18,7 @@ use Rattle.bitstream.proofs.WriteLaws.{puts-append, due-some, put-fits, length-
 use Rattle.bitstream.proofs.KeepLaws.{length-puts}
 use Rattle.bitstream.proofs.PackLaws.{length-pack, puts-pack}
 use Rattle.aps.specs.Kinds.{largestId}
-use Rattle.aps.specs.Codec.{u, _▷_, via, judged, provided}
+use Rattle.aps.specs.Codec.{Codec, u, _▷_, via, judged, provided}
 use Rattle.aps.specs.Elements.{flag}
 use Rattle.aps.specs.AlfSyntax.{alf}
 use Rattle.aps.specs.LmcsSyntax.{lmcs}
@@ -83,38 +83,62 @@ sent-is : (a : VvcAps) (k : ApsKind) → a .kind ≡ k → a .«aps_extension_fl
 unfolding fromAps
 sent-is a k e f = ap (λ (k : ApsKind). sent a k (a .«aps_extension_flag»)) e ∙ ap (sent a k) f
 
--- the five parts one after another are the set
-pub set-wrote : (set : VvcAps) (k : ApsKind) {a b c d e f : Stop} {o o₁ o₂ o₃ o₄ o₅ : List ℕ} → set .kind ≡ k → set .«aps_extension_flag» ≡ false
-    → Wrote (u 3) (numberOf k) 3 a b o o₁
-    → Wrote (u 5) (set .«aps_adaptation_parameter_set_id») 5 b c o₁ o₂
-    → Wrote flag (set .«aps_chroma_present_flag») 1 c d o₂ o₃
+-- three fields at once, then the rest: taken and put as one after another
+ands : (x y z w : Bool) → (x && (y && z)) && w ≡ x && (y && (z && w))
+ands true true z w = refl
+ands true false z w = refl
+ands false y z w = refl
+
+puts : (out : List ℕ) (p : ℕ) (e f g h : List ℕ) (x y z w : Bool)
+    → cond ((x && (y && z)) && w) (value (putBits out p ((e ++ (f ++ g)) ++ h)) (p + length ((e ++ (f ++ g)) ++ h))) (refused 2)
+    ≡ cond (x && (y && (z && w))) (value (putBits out p (e ++ (f ++ (g ++ h)))) (p + length (e ++ (f ++ (g ++ h))))) (refused 2)
+puts out p e f g h x y z w =
+    let k : (e ++ (f ++ g)) ++ h ≡ e ++ (f ++ (g ++ h)) = append-assoc e (f ++ g) h ∙ ap (λ (l : List ℕ). e ++ l) (append-assoc f g h) in
+    rw (ands x y z w, k)
+
+module _ {A B C D : Type 0} (a : Codec A) (b : A → Codec B) (c : A → B → Codec C) (d : A → B → C → Codec D) where
+  -- three fields, then the rest
+  wrote-head : (x : A) (y : B) (z : C) (w : D) (m n : ℕ) {from mid to : Stop} {out out₁ out₂ : List ℕ}
+      → Wrote (a ▷ λ x. b x ▷ c x) (x, (y, z)) m from mid out out₁ → Wrote (d x y z) w n mid to out₁ out₂
+      → Wrote (a ▷ λ x. b x ▷ λ y. c x y ▷ d x y) (x, (y, (z, w))) (m + n) from to out out₂
+  unfolding writes _▷_
+  wrote-head x y z w m n {out = out} h r =
+      wrote-as ((a ▷ λ x. b x ▷ c x) ▷ λ v. d (v .0) (v .1 .0) (v .1 .1)) ((x, (y, z)), w) (m + n) (a ▷ λ x. b x ▷ λ y. c x y ▷ d x y) (x, (y, (z, w)))
+      (λ p. puts out p (a .emit x) ((b x) .emit y) ((c x y) .emit z) ((d x y z) .emit w) (a .ok x) ((b x) .ok y) ((c x y) .ok z) ((d x y z) .ok w))
+      (wrote-▷ (a ▷ λ x. b x ▷ c x) (λ v. d (v .0) (v .1 .0) (v .1 .1)) (x, (y, z)) w m n h r)
+
+-- kind, id and chroma flag one after another
+pub head-wrote : (k i : ℕ) (chroma : Bool) {a b c d : Stop} {o o₁ o₂ o₃ : List ℕ} → Wrote (u 3) k 3 a b o o₁ → Wrote (u 5) i 5 b c o₁ o₂ → Wrote flag chroma 1 c d o₂ o₃
+    → Wrote (u 3 ▷ λ k. u 5 ▷ λ i. flag) (k, (i, chroma)) 9 a d o o₃
+head-wrote k i chroma v w x = wrote-▷ (u 3) (λ k. u 5 ▷ λ i. flag) k (i, chroma) 3 6 v (wrote-▷ (u 5) (λ i. flag) i chroma 5 1 w x)
+
+-- these, the payload and the extension flag are the set
+set-wrote : (set : VvcAps) (k : ApsKind) {a d e f : Stop} {o o₃ o₄ o₅ : List ℕ} → set .kind ≡ k → set .«aps_extension_flag» ≡ false
+    → Wrote (u 3 ▷ λ k. u 5 ▷ λ i. flag) (numberOf k, (set .«aps_adaptation_parameter_set_id», set .«aps_chroma_present_flag»)) 9 a d o o₃
     → Wrote (payload (numberOf k) (set .«aps_adaptation_parameter_set_id») (set .«aps_chroma_present_flag»))
     (payloadOf k (set .«aps_chroma_present_flag») (set .alf) (set .lmcs) (set .scaling)) 31248 d e o₃ o₄
     → Wrote flag false 1 e f o₄ o₅
     → Wrote aps set 31258 a f o o₅
 unfolding aps apsSyntax
-set-wrote set k {o = o} is plain v w x y z =
+set-wrote set k {o = o} is plain h y z =
     wrote-as apsSyntax (sent set k false) 31258 aps set
     (λ p. sym (writes-via toAps fromAps (λ a. true) apsSyntax set o p ∙ ap (λ (x : ApsData). writes apsSyntax x o p) (sent-is set k is plain)))
-    (wrote-▷ (u 3) (λ kind. u 5 ▷ λ id. flag ▷ λ chroma. payload kind id chroma ▷ λ d. flag) (numberOf k) _ 3 31255 v
-    (wrote-▷ (u 5) (λ id. flag ▷ λ chroma. payload (numberOf k) id chroma ▷ λ d. flag) _ _ 5 31250 w
-    (wrote-▷ flag (λ chroma. payload (numberOf k) (set .«aps_adaptation_parameter_set_id») chroma ▷ λ d. flag) _ _ 1 31249 x
-    (wrote-▷ (payload (numberOf k) (set .«aps_adaptation_parameter_set_id») (set .«aps_chroma_present_flag»)) (λ d. flag) _ false 31248 1 y z))))
+    (wrote-head (u 3) (λ kind. u 5) (λ kind id. flag) (λ kind id chroma. payload kind id chroma ▷ λ d. flag) _ _ _ _ 9 31249 h
+    (wrote-▷ (payload (numberOf k) (set .«aps_adaptation_parameter_set_id») (set .«aps_chroma_present_flag»)) (λ d. flag) _ false 31248 1 y z))
 
--- the first four of them: what the flag after them makes of all
-pub set-reached : (set : VvcAps) (k : ApsKind) {b c d e at : Stop} {o o₁ o₂ o₃ o₄ out : List ℕ} → set .kind ≡ k → set .«aps_extension_flag» ≡ false
-    → Wrote (u 3) (numberOf k) 3 (Stop.End 0) b o o₁
-    → Wrote (u 5) (set .«aps_adaptation_parameter_set_id») 5 b c o₁ o₂
-    → Wrote flag (set .«aps_chroma_present_flag») 1 c d o₂ o₃
+-- without the extension flag: what that flag makes of all
+pub set-reached : (set : VvcAps) (k : ApsKind) {n : ℕ} {d e at : Stop} {o o₃ o₄ out : List ℕ} → set .kind ≡ k → set .«aps_extension_flag» ≡ false → n ≡ numberOf (set .kind)
+    → Wrote (u 3 ▷ λ k. u 5 ▷ λ i. flag) (n, (set .«aps_adaptation_parameter_set_id», set .«aps_chroma_present_flag»)) 9 (Stop.End 0) d o o₃
     → Wrote (payload (numberOf k) (set .«aps_adaptation_parameter_set_id») (set .«aps_chroma_present_flag»))
     (payloadOf k (set .«aps_chroma_present_flag») (set .alf) (set .lmcs) (set .scaling)) 31248 d e o₃ o₄
     → length o₄ ≡ length o → out ≡ o₄ → at ≡ e
     → (length out ≡ length o) × StopsBy at 31257 × ((to : Stop) (last : List ℕ) → Wrote flag false 1 at to out last → Wrote aps set 31258 (Stop.End 0) to o last)
-set-reached set k is plain v w x y l eo ea =
+set-reached set k is plain number h y l eo ea =
+    let j = rw (number ∙ ap numberOf is) at h in
     rw eo (rw ea (
       l,
-      y .within 9 (x .within 8 (w .within 3 (v .within 0 (omega arith)))),
-      λ to last z. set-wrote set k is plain v w x y z,
+      y .within 9 (j .within 0 (omega arith)),
+      λ to last z. set-wrote set k is plain j y z,
     ))
 
 -- ---- the RBSP

@@ -15,7 +15,7 @@ use Rattle.bitstream.proofs.CodeLaws.{value-refused}
 use Rattle.bitstream.proofs.WriteLaws.{wrote}
 use Rattle.bitstream.proofs.Filling.{Filling, step, finish}
 use Rattle.aps.specs.Unit.{isAps}
-use Rattle.aps.specs.Writing.{bytesDue, unitOf, writeAps, writeApsNal}
+use Rattle.aps.specs.Writing.{bytesDue, unitOf, writeAps, writeNal, writeApsNal}
 use Rattle.aps.specs.declared.aps.VvcAps.{VvcAps}
 use Rattle.aps.proofs.RbspWrites.{taken-due}
 
@@ -71,7 +71,20 @@ copied out₀ out bytes i h k l f =
     let w : putBytes out₀ bytes ≡ value out (length bytes) = out-fits out₀ bytes l ∙ rw (finish g .1) in
     wrote out₀ w
 
+-- a call that answers and leaves what another does
+pub answered-as : (out : List ℕ) {a o w : Outcome (List ℕ)} {last : List ℕ} → w ≡ o → (a ≡ o) × (last ≡ left out o) → (a ≡ w) × (last ≡ left out w)
+answered-as out e h = (h .0 ∙ sym e, h .1 ∙ ap (left out) (sym e))
+
 -- ---- a unit
+
+-- the unit types of a set are below 32
+pub aps-type : (type : ℕ) → isAps type ≡ true → type < 32
+aps-type type e = go (eqb type 17) (eqb type 18) refl refl e
+  where
+    go : (a b : Bool) → eqb type 17 ≡ a → eqb type 18 ≡ b → (a || b) ≡ true → type < 32
+    go true b f g e = let h = eqb-true type 17 f in omega arith
+    go false true f g e = let h = eqb-true type 18 g in omega arith
+    go false false f g e = absurd (let z : _≡_ {A = ℕ} 0 1 = cc in omega arith)
 
 -- the two bytes of the header before what was put after them
 head-set : (out last e : List ℕ) (t : ℕ) → 2 ≤ length out → last ≡ e ++ drop (length e) (midOf 2 (length out - 2) out)
@@ -84,6 +97,22 @@ head-set (x ∷ y ∷ l) last e t h w =
     rw (n, v, drop-length l, append-nil (e ++ drop (length e) l))
 
 module _ (out bytes : List ℕ) (type : ℕ) where
+  -- a unit type that is none of a set is refused
+  pub unit-type : isAps type ≡ false → (refused 2 ≡ writeNal bytes type out) × (out ≡ left out (writeNal bytes type out))
+  unfolding writeNal
+  unit-type t = wrote out (rw t)
+
+  module _ (t : isAps type ≡ true) where
+    -- an RBSP over 65,536 bytes is refused
+    pub unit-long : 65536 < length bytes → (refused 4 ≡ writeNal bytes type out) × (out ≡ left out (writeNal bytes type out))
+    unfolding writeNal
+    unit-long h = wrote out (rw (t, lt-ltb 65536 (length bytes) h))
+
+    -- any other is put as a unit
+    pub unit-due : length bytes ≤ 65536 → writeNal bytes type out ≡ putBytes out (unitOf type bytes)
+    unfolding writeNal
+    unit-due h = rw (t, le-ltb 65536 (length bytes) h)
+
   -- a unit is its header and the escaped bytes
   unit-length : length (unitOf type bytes) ≡ 2 + length (escape bytes)
   unfolding unitOf
@@ -93,7 +122,7 @@ module _ (out bytes : List ℕ) (type : ℕ) where
   pub unit-short : length out < 2 → (refused 5 ≡ putBytes out (unitOf type bytes)) × (out ≡ left out (putBytes out (unitOf type bytes)))
   unit-short h = not-copied out (unitOf type bytes) (omega (arith, unit-length))
 
-  module _ (h : 2 ≤ length out) (b : length bytes ≤ 4096) where
+  module _ (h : 2 ≤ length out) (b : length bytes ≤ 65536) where
     -- the output after the header
     abbrev rest : List ℕ
     rest = midOf 2 (length out - 2) out
@@ -137,19 +166,6 @@ module _ (out bytes : List ℕ) (type : ℕ) where
 
 -- ---- the two calls
 
--- a call that answers and leaves what another does
-pub answered-as : (out : List ℕ) {a o w : Outcome (List ℕ)} {last : List ℕ} → w ≡ o → (a ≡ o) × (last ≡ left out o) → (a ≡ w) × (last ≡ left out w)
-answered-as out e h = (h .0 ∙ sym e, h .1 ∙ ap (left out) (sym e))
-
--- the unit types of a set are below 32
-pub aps-type : (type : ℕ) → isAps type ≡ true → type < 32
-aps-type type e = go (eqb type 17) (eqb type 18) refl refl e
-  where
-    go : (a b : Bool) → eqb type 17 ≡ a → eqb type 18 ≡ b → (a || b) ≡ true → type < 32
-    go true b f g e = let h = eqb-true type 17 f in omega arith
-    go false true f g e = let h = eqb-true type 18 g in omega arith
-    go false false f g e = absurd (let z : _≡_ {A = ℕ} 0 1 = cc in omega arith)
-
 module _ (set : VvcAps) (out : List ℕ) where
   -- a unit type that is none of a set is refused
   pub nal-type : (type : ℕ) → isAps type ≡ false → (refused 2 ≡ writeApsNal set type out) × (out ≡ left out (writeApsNal set type out))
@@ -180,9 +196,9 @@ module _ (set : VvcAps) (out : List ℕ) where
     aps-bytes = ap (λ (o : Outcome (List ℕ)). o then λ bytes n. putBytes out bytes) (sym e)
 
     -- or as a unit
-    pub nal-bytes : (type : ℕ) → isAps type ≡ true → writeApsNal set type out ≡ putBytes out (unitOf type l)
+    pub nal-bytes : (type : ℕ) → isAps type ≡ true → length l ≤ 65536 → writeApsNal set type out ≡ writeNal l type out
     unfolding writeApsNal
-    nal-bytes type t = rw t (ap (λ (o : Outcome (List ℕ)). o then λ bytes n. putBytes out (unitOf type bytes)) (sym e))
+    nal-bytes type t h = rw t (ap (λ (o : Outcome (List ℕ)). o then λ bytes n. putBytes out (unitOf type bytes)) (sym e)) ∙ sym (unit-due out l type t h)
 
 -- bytes that are counted are there
 pub taken-within : (n : ℕ) (l : List ℕ) → length (take n l) ≡ n → n ≤ length l

@@ -2,6 +2,7 @@
 use mathlib.Core.Bool.{cond}
 use mathlib.Core.List.{List, _∷_}
 use Prim.Native.Nat.{ℕ, _+_, _*_}
+use lib.Dec.{ltb}
 use lib.ListN.{length}
 use Rattle.bitstream.specs.Outcome.{Outcome, value, refused, _then_}
 use Rattle.bitstream.specs.Escapes.{escape, putBytes}
@@ -21,6 +22,10 @@ writeAps a out = bytesDue a then λ bytes n. putBytes out bytes
 -- a unit of layer 0 and temporal id 0: the two bytes of its header, then the RBSP with escapes put in
 unfoldable pub unitOf : ℕ → List ℕ → List ℕ
 unitOf type bytes = 0 ∷ (type * 8 + 1) ∷ escape bytes
+
+-- `write_nal`: an RBSP as a unit. 2: the unit's type; 4: the RBSP is over 65,536 bytes; 5 comes last
+unfoldable pub writeNal : List ℕ → ℕ → List ℕ → Outcome (List ℕ)
+writeNal rbsp type out = cond (isAps type) (cond (ltb 65536 (length rbsp)) (refused 4) (putBytes out (unitOf type rbsp))) (refused 2)
 
 -- `write_aps_nal`: the unit type is judged first
 unfoldable pub writeApsNal : VvcAps → ℕ → List ℕ → Outcome (List ℕ)

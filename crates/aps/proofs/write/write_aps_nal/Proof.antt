@@ -7,7 +7,7 @@ use mathlib.Core.Path.{_≡_, sym, _∙_}
 use lib.ListN.{length, take}
 use Rattle.bitstream.specs.Outcome.{value}
 use Rattle.aps.specs.Writing.{bytesDue}
-use Rattle.aps.proofs.UnitWrites.{answered-as, aps-type, nal-type, nal-refused, due-length, nal-bytes, taken-within}
+use Rattle.aps.proofs.UnitWrites.{answered-as, nal-type, nal-refused, due-length, nal-bytes, taken-within}
 use Rattle.aps.proofs.write.write_aps_nal.Statement.{statement}
 use Rattle.aps.proofs.write.write_aps_nal.Tie as tie
 
@@ -39,20 +39,13 @@ array-share-prefix-buffer c =
     let b = c .before .before .before .before .before .before .before .before .before in
     taken-within _ _ (due-length (b .args .set) (now (b .args .out)) _ _ (due c))
 
-slice-aggregate-unit-out : tie.Need-slice-aggregate-unit-out
-slice-aggregate-unit-out c =
+slice-aggregate-write-nal : tie.Need-slice-aggregate-write-nal
+slice-aggregate-write-nal c =
     let b = c .before .before .before .before .before .before .before .before .before .before in
     sym (due-length (b .args .set) (now (b .args .out)) _ _ (due (c .before)))
 
-unit-out-requires : tie.Need-unit-out-requires
-unit-out-requires c κs =
-    let d = c .before .before in
-    let k = d .before .before .before .before in
-    let i = k .before .before .before in
-    let b = i .before .before in
-    let l = due-length (b .args .set) (now (b .args .out)) _ _ (due d) in
-    let s : length (k .write-rbsp .last .1 .0) ≡ 4096 = search needs in
-    (omega (arith, l, taken-within _ _ l, s), aps-type (b .args .unit-type) (sym (i .is-aps .ensures) ∙ not-false _ (k .before .before .if1 .left)))
+write-nal-requires : tie.Need-write-nal-requires
+write-nal-requires c κs = search needs
 
 enum-known-why : tie.Need-enum-known-why
 enum-known-why c = search needs
@@ -64,9 +57,14 @@ returns-2 : tie.Need-returns-2
 returns-2 c =
     let k = c .before .before in
     let d = k .before .before .before in
-    let i = d .before .before .before .before .before .before .before in
+    let w = d .before .before .before .before in
+    let i = w .before .before .before in
     let b = i .before .before in
-    answered-as (now (b .args .out)) (nal-bytes (b .args .set) (now (b .args .out)) _ _ (due d) (b .args .unit-type) (sym (i .is-aps .ensures) ∙ not-false _ (d .before .before .before .before .before .before .if1 .left))) (k .unit-out .ensures)
+    let l = due-length (b .args .set) (now (b .args .out)) _ _ (due d) in
+    let s : length (w .write-rbsp .last .1 .0) ≡ 4096 = search needs in
+    answered-as (now (b .args .out))
+    (nal-bytes (b .args .set) (now (b .args .out)) _ _ (due d) (b .args .unit-type) (sym (i .is-aps .ensures) ∙ not-false _ (w .before .before .if1 .left)) (omega (arith, l, taken-within _ _ l, s)))
+    (k .write-nal .ensures)
 
 returns-3 : tie.Need-returns-3
 returns-3 c =
@@ -85,8 +83,8 @@ write-aps-nal-spec =
     write-rbsp-requires
     enum-known-n
     array-share-prefix-buffer
-    slice-aggregate-unit-out
-    unit-out-requires
+    slice-aggregate-write-nal
+    write-nal-requires
     enum-known-why
     same-length
     returns-2
