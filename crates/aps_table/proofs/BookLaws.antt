@@ -9,8 +9,9 @@ use native.Mathlib.Omega.{arith}
 use borrow.Author.Tests.{leb-true, leb-false}
 use lib.Dec.{leb, eqb}
 use Rattle.bitstream.specs.Outcome.{Outcome, value, refused}
+use Rattle.aps.specs.Kinds.{largestId}
 use Rattle.aps.specs.declared.aps.VvcAps.{VvcAps}
-use Rattle.aps_table.specs.Places.{largest, Names, ids, names, Entries, kindIn, idIn, extended}
+use Rattle.aps_table.specs.Places.{Names, ids, names, filledAmong, Entries, kindIn, idIn, extended}
 use Rattle.aps_table.specs.Taking.{Verdict, accept, pass, refuse, verdict}
 use Rattle.aps_table.specs.Calls.{Call, stream, alone, unitsTaken}
 use Rattle.aps_table.specs.List.{isExtended, anyExtended, listed, listDue}
@@ -45,9 +46,9 @@ in-ids k j i (suc n) h l = go (leb j i) refl (λ g. in-ids k j (suc i) n g (omeg
 
 -- each kind and id that names a place stands in the list of names
 pub in-names : (k i : ℕ) → Names k i → In k i names
-in-names zero i h = in-left 0 i (ids 0 0 8) _ (in-ids 0 i 0 8 (omega arith) (omega arith))
-in-names (suc zero) i h = in-right 1 i (ids 0 0 8) _ (in-left 1 i (ids 1 0 4) _ (in-ids 1 i 0 4 (omega arith) (omega arith)))
-in-names (suc (suc zero)) i h = in-right 2 i (ids 0 0 8) _ (in-right 2 i (ids 1 0 4) _ (in-ids 2 i 0 8 (omega arith) (omega arith)))
+in-names zero i h = in-left 0 i (ids 0 0 (largestId 0 + 1)) _ (in-ids 0 i 0 (largestId 0 + 1) (omega arith) (omega arith))
+in-names (suc zero) i h = in-right 1 i (ids 0 0 (largestId 0 + 1)) _ (in-left 1 i (ids 1 0 (largestId 1 + 1)) _ (in-ids 1 i 0 (largestId 1 + 1) (omega arith) (omega arith)))
+in-names (suc (suc zero)) i h = in-right 2 i (ids 0 0 (largestId 0 + 1)) _ (in-right 2 i (ids 1 0 (largestId 1 + 1)) _ (in-ids 2 i 0 (largestId 2 + 1) (omega arith) (omega arith)))
 in-names (suc (suc (suc k))) i h = absurd (omega arith)
 
 -- every name of a list names a place
@@ -55,7 +56,7 @@ unfoldable pub AllNames : List (ℕ × ℕ) → Type 0
 AllNames [] = Unit {0}
 AllNames (n ∷ ns) = Names (n .0) (n .1) × AllNames ns
 
-names-ids : (k i n : ℕ) → k < 3 → i + n ≤ suc (largest k) → AllNames (ids k i n)
+names-ids : (k i n : ℕ) → k < 3 → i + n ≤ suc (largestId k) → AllNames (ids k i n)
 unfolding AllNames
 names-ids k i zero h l = tt
 names-ids k i (suc n) h l = ((h, omega arith), names-ids k (suc i) n h (omega arith))
@@ -67,8 +68,8 @@ names-append (n ∷ ns) ms h g = (h .0, names-append ns ms (h .1) g)
 
 pub all-names : AllNames names
 all-names =
-    names-append (ids 0 0 8) _ (names-ids 0 0 8 (omega arith) (omega arith))
-    (names-append (ids 1 0 4) _ (names-ids 1 0 4 (omega arith) (omega arith)) (names-ids 2 0 8 (omega arith) (omega arith)))
+    names-append (ids 0 0 (largestId 0 + 1)) _ (names-ids 0 0 (largestId 0 + 1) (omega arith) (omega arith))
+    (names-append (ids 1 0 (largestId 1 + 1)) _ (names-ids 1 0 (largestId 1 + 1) (omega arith) (omega arith)) (names-ids 2 0 (largestId 2 + 1) (omega arith) (omega arith)))
 
 -- ---- the last unit accepted
 
@@ -150,6 +151,12 @@ listed-agree (n ∷ ns) a b m h = rw (h (n .0) (n .1) (m .0), listed-agree ns a 
 pub list-agree : (a b : Entries) → Agree a b → listDue a ≡ listDue b
 unfolding listDue
 list-agree a b h = rw (any-agree names a b all-names h, listed-agree names a b all-names h)
+
+-- and as many sets
+pub filled-agree : (ns : List (ℕ × ℕ)) (a b : Entries) → AllNames ns → Agree a b → filledAmong ns a ≡ filledAmong ns b
+unfolding filledAmong AllNames
+filled-agree [] a b m h = refl
+filled-agree (n ∷ ns) a b m h = rw (h (n .0) (n .1) (m .0), filled-agree ns a b (m .1) h)
 
 -- ---- extension flags
 

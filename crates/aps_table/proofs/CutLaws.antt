@@ -5,6 +5,7 @@ use mathlib.Core.Bool.{Bool, true, false, cond, _&&_, _||_, false≢true}
 use mathlib.Core.List.{List, [], _∷_, _++_}
 use mathlib.Core.Option.{Option, none, some}
 use mathlib.Core.Logic.{_⊎_, inl, inr}
+use native.Mathlib.Nat.{add-zero, zero-add, add-assoc}
 use native.Mathlib.Omega.{arith}
 use borrow.Author.Tests.{eqb-true, eq-eqb, le-ltb, lt-ltb}
 use lib.Dec.{ltb, eqb, lit≤}
@@ -15,13 +16,15 @@ use Rattle.aps.specs.Unit.{rbspOf}
 use Rattle.aps.specs.declared.aps.VvcAps.{VvcAps}
 use Rattle.aps.proofs.CodecLaws.{and-left, and-right}
 use Rattle.aps_table.specs.Split.{framed}
-use Rattle.aps_table.specs.Places.{names, Entries, kindIn, idIn}
-use Rattle.aps_table.specs.Taking.{Verdict, accept, pass, refuse, verdict}
-use Rattle.aps_table.specs.Calls.{Call, stream, alone, unitsTaken}
+use Rattle.aps_table.specs.Places.{names, Entries, kindIn, idIn, filledAmong, filled}
+use Rattle.aps_table.specs.Taking.{Verdict, accept, pass, refuse, verdict, tally, noUnits}
+use Rattle.aps_table.specs.Calls.{Call, stream, alone, counted, unitsTaken, answerTo}
 use Rattle.aps_table.specs.List.{isExtended, anyExtended, joined, listed, listDue}
 use Rattle.aps_table.specs.Book.{noEntries, replace, note, noteUnits, noteTaken, enter, enters, book}
+use Rattle.aps_table.specs.Inner.{mostListed}
+use Rattle.aps_table.specs.declared.table.Counts.{Counts}
 use Rattle.aps_table.proofs.SplitLaws.{AllFit, split-framed}
-use Rattle.aps_table.proofs.UnitLaws.{entryMost, accepted-read, Written, unit-written}
+use Rattle.aps_table.proofs.UnitLaws.{accepted-read, Written, unit-written}
 use Rattle.aps_table.proofs.BookLaws.{In, in-names, Agree}
 
 -- ---- what a book holds came from units, and stands under its own kind and id
@@ -135,26 +138,37 @@ over-same (n ∷ ns) b x k i h = over-same ns b (fill (n .0) (n .1) (b (n .0) (n
 -- the bytes of the entries under the names at the most
 total : List (ℕ × ℕ) → ℕ
 total [] = 0
-total (n ∷ ns) = entryMost (n .0) + total ns
+total (n ∷ ns) = mostListed (n .0) + total ns
 
 total-names : total names ≤ 65536
 unfolding total
 total-names = lit≤ tt
 
--- the list of the names ns from the book b: its units, which read back give the entries of b under ns
+-- n more units accepted
+abbrev more : ℕ → Counts → Counts
+more n c = record { accepted = c .accepted + n; refused = c .refused; passed = c .passed }
+
+more-none : (c : Counts) → c ≡ more 0 c
+more-none c = ap (λ (m : ℕ). record { accepted = m; refused = c .refused; passed = c .passed }) (sym (add-zero (c .accepted)))
+
+more-one : (n : ℕ) (c : Counts) → more n (more 1 c) ≡ more (1 + n) c
+more-one n c = ap (λ (m : ℕ). record { accepted = m; refused = c .refused; passed = c .passed }) (add-assoc (c .accepted) 1 n)
+
+-- the list of the names ns from the book b: its units, which read back give the entries of b under ns and are all accepted
 record Listed (ns : List (ℕ × ℕ)) (b : Entries) : Type 0 where
   us : List (List ℕ)
   listed-is : listed ns b ≡ value (framed us) (length (framed us))
   fit : AllFit us
   small : length (framed us) ≤ total ns
   read : (room : ℕ) → length (framed us) ≤ room → (x : Entries) → noteUnits room us x ≡ over ns b x
+  counts : (room : ℕ) → length (framed us) ≤ room → (c : Counts) → tally room us c ≡ more (filledAmong ns b) c
 
 joined-value : (l k : List ℕ) → joined (value l (length l)) (value k (length k)) ≡ value (l ++ k) (length (l ++ k))
 joined-value l k = rw length-append
 
 list-of : (ns : List (ℕ × ℕ)) (b : Entries) → Held b → anyExtended ns b ≡ false → Listed ns b
-unfolding listed anyExtended framed AllFit total noteUnits over
-list-of [] b h f = record { us = []; listed-is = refl; fit = tt; small = omega arith; read = λ room l x. refl }
+unfolding listed anyExtended framed AllFit total noteUnits over tally filledAmong
+list-of [] b h f = record { us = []; listed-is = refl; fit = tt; small = omega arith; read = λ room l x. refl; counts = λ room l c. more-none c }
 list-of (n ∷ ns) b h f =
     go (b (n .0) (n .1)) refl (or-parts (isExtended (b (n .0) (n .1))) (anyExtended ns b) f .0)
     (list-of ns b h (or-parts (isExtended (b (n .0) (n .1))) (anyExtended ns b) f .1))
@@ -166,11 +180,12 @@ list-of (n ∷ ns) b h f =
       fit = R .fit;
       small = omega (arith, R .small);
       read = λ room l x. rw e (R .read room l x);
+      counts = λ room l c. rw (e, zero-add) (R .counts room l c);
     }
     go (some a) q g R =
         let H : Came (n .0) (n .1) a = h (n .0) (n .1) a q in
         let W : Written a = unit-written (H .rbsp) a (H .end) (H .read) (rw q at g) in
-        let s : 4 + length (W .unit) ≤ entryMost (n .0) = rw (H .kind-is) at (W .small) in
+        let s : 4 + length (W .unit) ≤ mostListed (n .0) = rw (H .kind-is) at (W .small) in
         record {
           us = W .unit ∷ R .us;
           listed-is = rw (q, W .due, R .listed-is) (joined-value (0 ∷ 0 ∷ 0 ∷ 1 ∷ W .unit) (framed (R .us)));
@@ -179,6 +194,9 @@ list-of (n ∷ ns) b h f =
           read = λ room l x.
               rw (W .back room (omega (arith, length-append (W .unit) (framed (R .us)))), q, H .kind-is, H .id-is)
               (R .read room (omega (arith, length-append (W .unit) (framed (R .us)))) (replace (n .0) (n .1) (some a) x));
+          counts = λ room l c.
+              rw (W .back room (omega (arith, length-append (W .unit) (framed (R .us)))), q)
+              (R .counts room (omega (arith, length-append (W .unit) (framed (R .us)))) (more 1 c) ∙ more-one (filledAmong ns b) c);
         }
 
 -- units in the byte stream form, not too long: the work buffer decides
@@ -192,6 +210,7 @@ pub record ReadBack (b : Entries) (l : List ℕ) : Type 0 where
   pub due : listDue b ≡ value l (length l)
   pub short : length l ≤ 65536
   pub no-work : (room : ℕ) → room < length l → unitsTaken l room ≡ refused 5
+  pub accepted : (room : ℕ) → length l ≤ room → answerTo (stream l room) ≡ counted (record { accepted = filled b; refused = 0; passed = 0 })
   pub read : (room : ℕ) → length l ≤ room → (x : Entries) → Agree x noEntries → Agree (enter (stream l room) x) b
 
 pub read-back : (b : Entries) → Held b → anyExtended names b ≡ false → (l : List ℕ) × ReadBack b l
@@ -204,6 +223,9 @@ read-back b h f =
         due = rw (f, R .listed-is);
         short = s;
         no-work = λ room l. taken-framed (R .us) room (R .fit) s ∙ rw (lt-ltb room (length (framed (R .us))) l);
+        accepted = λ room l.
+            rw (taken-framed (R .us) room (R .fit) s, le-ltb room (length (framed (R .us))) l)
+            (ap counted (R .counts room l noUnits ∙ ap (λ (m : ℕ). record { accepted = m; refused = 0; passed = 0 }) (zero-add (filled b))));
         read = λ room l x e k i n.
             rw (taken-framed (R .us) room (R .fit) s, le-ltb room (length (framed (R .us))) l, R .read room l x)
             (over-same names b x k i (inr (e k i n, in-names k i n)));

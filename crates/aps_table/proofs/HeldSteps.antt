@@ -8,6 +8,7 @@ use native.Mathlib.Omega.{arith}
 use lib.ListN.{length, take}
 use Rattle.bitstream.specs.Outcome.{value, refused}
 use Rattle.bitstream.proofs.KeepLaws.{Bytes}
+use Rattle.aps.specs.Kinds.{mostBytes}
 use Rattle.aps.specs.Rbsp.{readRbsp, parseApsRbsp}
 use Rattle.aps.specs.Reading.{outcomeRead}
 use Rattle.aps.specs.declared.aps.ApsOutcome.{ApsOutcome}
@@ -20,7 +21,7 @@ use Rattle.aps_table.specs.List.{coded, entry, joined}
 use Rattle.aps_table.proofs.ListLaws.{joined-last, due-extended, due-plain}
 
 -- in an arm of the `match` on what reading comes to: the definition gives it too
-pub read-as : (s : List ℕ) (a : VvcAps) {r x : ApsOutcome} → length s ≤ 2931 → outcomeRead r a ≡ parseApsRbsp s → r ≡ x → readRbsp s ≡ outcomeRead x a
+pub read-as : (s : List ℕ) (a : VvcAps) {r x : ApsOutcome} → length s ≤ mostBytes 2 → outcomeRead r a ≡ parseApsRbsp s → r ≡ x → readRbsp s ≡ outcomeRead x a
 read-as s a l f e = sym (in-limits s (omega arith)) ∙ answered (λ (o : ApsOutcome). outcomeRead o a) e f
 
 -- no set: the bytes stay

@@ -1,18 +1,19 @@
 -- The list at a cut: bytes joined, the entries of places one after another, and how long an entry is.
 use borrow.Author.Tests.{eqb-true}
 use mathlib.Core.Path.{_≡_, refl, sym, ap, _∙_}
-use mathlib.Core.Bool.{Bool, true, false, cond, _&&_, _||_}
+use mathlib.Core.Bool.{Bool, true, false, cond, _&&_, _||_, false≢true}
 use mathlib.Core.List.{List, [], _∷_, _++_, append-assoc, append-nil}
 use mathlib.Core.Option.{Option, none, some}
-use Prim.Native.Nat.{ℕ, zero, suc, _+_, _*_, _/_, _≤_}
+use Prim.Native.Nat.{ℕ, zero, suc, _+_, _≤_}
 use native.Mathlib.Nat.{add-zero, zero-add, add-assoc}
 use native.Mathlib.Numerals.{add-one}
 use native.Mathlib.Omega.{arith}
-use lib.Dec.{eqb}
-use lib.ListN.{length}
+use lib.Dec.{ltb, eqb}
+use lib.ListN.{length, drop}
 use Rattle.bitstream.specs.Outcome.{Outcome, value, refused, _then_}
+use Rattle.bitstream.specs.Escapes.{putBytes}
+use Rattle.bitstream.proofs.CodeLaws.{value-refused}
 use Rattle.bitstream.proofs.EscapeLaws.{escape-most}
-use Rattle.aps.specs.Kinds.{mostBytes}
 use Rattle.aps.specs.ApsSyntax.{numberOf, aps}
 use Rattle.aps.specs.Rbsp.{readRbsp, rbspBytes}
 use Rattle.aps.specs.declared.aps.ApsKind.{ApsKind}
@@ -22,7 +23,8 @@ use Rattle.aps.proofs.RbspLaws.{rbsp-sound, rbsp-most}
 use Rattle.aps.specs.Writing.{bytesDue, unitOf}
 use Rattle.aps.proofs.RbspWrites.{due-taken, taken-due}
 use Rattle.aps_table.specs.Places.{Entries, ids, names, kindIn, idIn, extended, placeBytes, under, held}
-use Rattle.aps_table.specs.List.{coded, entry, entryDue, joined, listed, isExtended, anyExtended, listDue, listAt}
+use Rattle.aps_table.specs.List.{coded, entry, entryDue, joined, listed, isExtended, anyExtended, listDue, writeList}
+use Rattle.aps_table.specs.Inner.{mostListed, listAt}
 
 -- ---- joined
 
@@ -117,6 +119,26 @@ module _ (b : Entries) (sound : (k i : ℕ) (a : VvcAps) → b k i ≡ some a �
       go none f e h = rw (h e)
       go (some a) f e h = one a (sound (n .0) (n .1) a f) (extended a) refl e h
 
+  -- without one they are bytes
+  listed-plain : (ns : List (ℕ × ℕ)) → anyExtended ns b ≡ false → (l : List ℕ) × (n : ℕ) × (listed ns b ≡ value l n)
+  unfolding anyExtended listed
+  listed-plain [] e = ([], 0, refl)
+  listed-plain (n ∷ ns) e = go (b (n .0) (n .1)) refl e (listed-plain ns)
+    where
+      one : (a : VvcAps) → aps .ok a ≡ true → (x : Bool) → extended a ≡ x → (x || anyExtended ns b) ≡ false → (anyExtended ns b ≡ false → (l : List ℕ) × (n : ℕ) × (listed ns b ≡ value l n))
+          → (l : List ℕ) × (n : ℕ) × (joined (entryDue a) (listed ns b) ≡ value l n)
+      one a o true x e h = absurd (false≢true (sym e))
+      one a o false x e h =
+          let (l, m, w) = h e in
+          (coded (rbspBytes a) ++ l, length (coded (rbspBytes a)) + m, rw (due-plain a x o, w))
+
+      go : (o : Option VvcAps) → b (n .0) (n .1) ≡ o → (isExtended o || anyExtended ns b) ≡ false → (anyExtended ns b ≡ false → (l : List ℕ) × (n : ℕ) × (listed ns b ≡ value l n))
+          → (l : List ℕ) × (n : ℕ) × (joined (entry o) (listed ns b) ≡ value l n)
+      go none f e h =
+          let (l, m, w) = h e in
+          (l, 0 + m, rw w)
+      go (some a) f e h = one a (sound (n .0) (n .1) a f) (extended a) refl e h
+
 -- the list of a table is what its entries come to
 pub listed-due : (t : List ℕ) → listed names (held t) ≡ listDue (held t)
 unfolding listDue
@@ -126,18 +148,38 @@ listed-due t = go (anyExtended names (held t)) refl
     go true e = listed-extended (held t) (λ k i a h. held-some t k i a h .1) names e
     go false e = refl
 
+-- an output that is too short gives 5
+put-never-2 : (out l : List ℕ) → putBytes out l ≡ refused 2 → ⊥
+unfolding putBytes
+put-never-2 out l = go (ltb (length out) (length l))
+  where
+    go : (b : Bool) → cond b (refused 5) (value (l ++ drop (length l) out) (length l)) ≡ refused 2 → ⊥
+    go true e = let z : _≡_ {A = ℕ} 5 2 = cc in omega arith
+    go false e = absurd (value-refused e)
+
+-- whatever the table's bytes and the output, no list is refused with 2
+pub list-never-2 : (t out : List ℕ) → writeList t out ≡ refused 2 → ⊥
+unfolding writeList listDue
+list-never-2 t out = go (anyExtended names (held t)) refl
+  where
+    go : (x : Bool) → anyExtended names (held t) ≡ x → (cond x (refused 3) (listed names (held t)) then λ l n. putBytes out l) ≡ refused 2 → ⊥
+    go true e f = let z : _≡_ {A = ℕ} 3 2 = cc in omega arith
+    go false e f =
+        let (l, n, w) = listed-plain (held t) (λ k i a h. held-some t k i a h .1) names e in
+        put-never-2 out l (ap (λ (o : Outcome (List ℕ)). o then λ l n. putBytes out l) (sym w) ∙ f)
+
 -- ---- the most bytes
 
--- of a unit
-pub unit-most : (a : VvcAps) (l : List ℕ) (n : ℕ) → bytesDue a ≡ value l n → length (unitOf 17 l) ≤ 2 + mostBytes (numberOf (a .kind)) * 3 / 2
+-- of a unit after its start code
+pub unit-most : (a : VvcAps) (l : List ℕ) (n : ℕ) → bytesDue a ≡ value l n → 4 + length (unitOf 17 l) ≤ mostListed (numberOf (a .kind))
 unfolding unitOf
 unit-most a l n e =
     let (x, o, w, m) = taken-due a l n e in
     omega (arith, escape-most l, rbsp-most a o, ap length w)
 
 -- of an entry
-pub entry-most : (a : VvcAps) (l : List ℕ) (n : ℕ) → entryDue a ≡ value l n → n ≤ 6 + mostBytes (numberOf (a .kind)) * 3 / 2
-unfolding entryDue
+pub entry-most : (a : VvcAps) (l : List ℕ) (n : ℕ) → entryDue a ≡ value l n → n ≤ mostListed (kindIn a)
+unfolding entryDue kindIn
 entry-most a l n e =
     let (k, m, d, w) = then-value (bytesDue a) (λ bytes n. value (coded bytes) (length (coded bytes))) e in
     let v : length (coded k) ≡ n = cc in
@@ -148,7 +190,7 @@ pub entry-fits : (a : VvcAps) (l : List ℕ) (n i p : ℕ) → entryDue a ≡ va
 unfolding kindIn
 entry-fits a l n i p e h = go (a .kind) (entry-most a l n e) h
   where
-    go : (k : ApsKind) → n ≤ 6 + mostBytes (numberOf k) * 3 / 2 → p ≤ listAt (numberOf k) i → p + n ≤ listAt (numberOf k) (i + 1)
+    go : (k : ApsKind) → n ≤ mostListed (numberOf k) → p ≤ listAt (numberOf k) i → p + n ≤ listAt (numberOf k) (i + 1)
     go ApsKind.Alf m h = omega arith
     go ApsKind.Lmcs m h = omega arith
     go ApsKind.Scaling m h = omega arith

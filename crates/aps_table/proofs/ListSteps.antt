@@ -1,4 +1,4 @@
--- What each way through the code of the list comes to: the bytes in the buffer up to a stop.
+-- What each way through the code of the list comes to: the bytes in the buffer so far.
 use borrow.Author.Tests.{le-ltb}
 use borrow.Rule.Slice.PartMut.{midOf, putMid}
 use mathlib.Core.Path.{_≡_, refl, sym, ap, _∙_}
@@ -11,17 +11,18 @@ use lib.Seq.{sets, sets-eq, length-take-le, take-append-le, take-append-add, tak
 use Rattle.bitstream.specs.Outcome.{Outcome, value, refused, left, number, _then_}
 use Rattle.bitstream.specs.Escapes.{escape, putBytes, rbspToEbsp}
 use Rattle.bitstream.specs.declared.Refusal.{Refusal}
+use Rattle.bitstream.specs.declared.nal.Size.{Size}
+use Rattle.bitstream.specs.declared.nal.Size.the-variants as Size
 use Rattle.bitstream.proofs.CodeLaws.{value-refused}
 use Rattle.bitstream.proofs.EscapeLaws.{escape-most}
 use Rattle.bitstream.proofs.WriteLaws.{wrote}
+use Rattle.aps.specs.Kinds.{largestId, mostBytes}
 use Rattle.aps.specs.Rbsp.{readRbsp}
-use Rattle.aps.specs.Inner.{StopsBy}
-use Rattle.aps.specs.declared.fields.Stop.{Stop}
-use Rattle.aps.specs.declared.fields.Stop.the-variants as Stop
 use Rattle.aps.specs.declared.aps.VvcAps.{VvcAps}
 use Rattle.aps.specs.Writing.{unitOf}
-use Rattle.aps_table.specs.Places.{Entries, Names, largest, ids, names, placeBytes, under, held, kindIn}
-use Rattle.aps_table.specs.List.{coded, entry, entryDue, joined, listed, writeList, upTo, listAt}
+use Rattle.aps_table.specs.Places.{Entries, Names, ids, names, placeBytes, under, held, kindIn}
+use Rattle.aps_table.specs.List.{coded, entry, entryDue, joined, listed, writeList}
+use Rattle.aps_table.specs.Inner.{upTo, AtMost, mostListed, listAt, listBytes}
 use Rattle.aps_table.proofs.ListLaws.{joined-first, joined-last, joined-joined, listed-append, listed-next, held-some, listed-due, entry-fits}
 
 -- ---- a unit after its start code
@@ -30,7 +31,7 @@ use Rattle.aps_table.proofs.ListLaws.{joined-first, joined-last, joined
 abbrev withCode : List ℕ → ℕ → List ℕ → List ℕ
 withCode out p last = set (set (set (set (set (set (putMid (p + 6) (length out - (p + 6)) out last) p 0) (p + 1) 0) (p + 2) 0) (p + 3) 1) (p + 4) 0) (p + 5) 137
 
-module _ (out : List ℕ) (p : ℕ) (bytes : List ℕ) (h : (p + 4402 ≤ length out) × (length bytes ≤ 2931)) where
+module _ (out : List ℕ) (p : ℕ) (bytes : List ℕ) (h : (p + mostListed 2 ≤ length out) × (length bytes ≤ mostBytes 2)) where
   -- the bytes with escapes put in
   abbrev escaped : List ℕ
   escaped = escape bytes
@@ -72,7 +73,7 @@ module _ (out : List ℕ) (p : ℕ) (bytes : List ℕ) (h : (p + 4402 ≤ length
 
   -- the start code and the unit after it
   pub unit-put : (last : List ℕ) (n : ℕ) → value last n ≡ rbspToEbsp bytes rest
-      → (n ≤ 4396) × (value (take (p + 6 + n) (withCode out p last)) (p + 6 + n) ≡ joined (value (take p out) p) (value (coded bytes) (length (coded bytes))))
+      → (6 + n ≤ mostListed 2) × (value (take (p + 6 + n) (withCode out p last)) (p + 6 + n) ≡ joined (value (take p out) p) (value (coded bytes) (length (coded bytes))))
   unfolding unitOf
   unit-put last n f =
       let g = f ∙ unit-room in
@@ -84,7 +85,7 @@ module _ (out : List ℕ) (p : ℕ) (bytes : List ℕ) (h : (p + 4402 ≤ length
 -- ---- a place
 
 -- the buffer has room for the entry of any place
-pub place-room : (k i p : ℕ) → Names k i → p ≤ listAt k i → p + 4402 ≤ 45492
+pub place-room : (k i p : ℕ) → Names k i → p ≤ listAt k i → p + mostListed 2 ≤ listBytes
 place-room zero i p h l = omega arith
 place-room (suc zero) i p h l = omega arith
 place-room (suc (suc k)) i p h l = omega arith
@@ -96,11 +97,11 @@ list-more (suc zero) i = omega arith
 list-more (suc (suc k)) i = omega arith
 
 -- an entry ends where the next place's may begin
-entry-within : (k i p : ℕ) (b : Option VvcAps) (r : Stop) (last l : List ℕ) → ((a : VvcAps) → b ≡ some a → kindIn a ≡ k) → p ≤ listAt k i → upTo r last ≡ joined (value l p) (entry b)
-    → StopsBy r (listAt k (i + 1))
-entry-within k i p b (Stop.Refused n) last l w h e = tt
-entry-within k i p none (Stop.End q) last l w h e = let s : q ≡ p + 0 = cc in omega (arith, list-more k i)
-entry-within k i p (some a) (Stop.End q) last l w h e = go (entryDue a) refl e
+entry-within : (k i p : ℕ) (b : Option VvcAps) (r : Size) (last l : List ℕ) → ((a : VvcAps) → b ≡ some a → kindIn a ≡ k) → p ≤ listAt k i → upTo r last ≡ joined (value l p) (entry b)
+    → AtMost r (listAt k (i + 1))
+entry-within k i p b (Size.Refused n) last l w h e = tt
+entry-within k i p none (Size.Bytes q) last l w h e = let s : q ≡ p + 0 = cc in omega (arith, list-more k i)
+entry-within k i p (some a) (Size.Bytes q) last l w h e = go (entryDue a) refl e
   where
     go : (o : Outcome (List ℕ)) → entryDue a ≡ o → value (take q last) q ≡ joined (value l p) o → q ≤ listAt k (i + 1)
     go (value m n) f e =
@@ -110,28 +111,28 @@ entry-within k i p (some a) (Stop.End q) last l w h e = go (entryDue a) refl e
         omega arith
     go (refused n) f e = absurd (value-refused e)
 
-module _ (t : List ℕ) (k i : ℕ) (from : Stop) (buffer : List ℕ) where
-  module _ (p : ℕ) (f : from ≡ Stop.End p) (h : StopsBy from (listAt k i)) where
+module _ (t : List ℕ) (k i : ℕ) (from : Size) (buffer : List ℕ) where
+  module _ (p : ℕ) (f : from ≡ Size.Bytes p) (h : AtMost from (listAt k i)) where
     -- a place's bytes begin in time
     pub place-at : p ≤ listAt k i
     place-at = rw f at h
 
     -- the entry of a place's bytes
-    pub place-put : (s : List ℕ) (r : Stop) (last : List ℕ) → s ≡ placeBytes t k i → upTo r last ≡ joined (value (take p buffer) p) (entry (under k i (readRbsp s)))
-        → (upTo r last ≡ joined (upTo from buffer) (entry (held t k i))) × StopsBy r (listAt k (i + 1))
+    pub place-put : (s : List ℕ) (r : Size) (last : List ℕ) → s ≡ placeBytes t k i → upTo r last ≡ joined (value (take p buffer) p) (entry (under k i (readRbsp s)))
+        → (upTo r last ≡ joined (upTo from buffer) (entry (held t k i))) × AtMost r (listAt k (i + 1))
     unfolding held
     place-put s r last e w =
         let v : upTo r last ≡ joined (value (take p buffer) p) (entry (held t k i)) = rw e at w in
         (v ∙ rw f, entry-within k i p (held t k i) r last (take p buffer) (λ a g. held-some t k i a g .0) place-at v)
 
   -- a refusal stays
-  pub place-refused : (n : Refusal) → from ≡ Stop.Refused n → refused (number n) ≡ joined (upTo from buffer) (entry (held t k i))
+  pub place-refused : (n : Refusal) → from ≡ Size.Refused n → refused (number n) ≡ joined (upTo from buffer) (entry (held t k i))
   place-refused n f = rw f
 
 -- ---- the places of a kind
 
--- no id is over 7
-pub largest-most : (k : ℕ) → largest k ≤ 7
+-- no kind's largest id is over that of ALF
+pub largest-most : (k : ℕ) → largestId k ≤ largestId 0
 largest-most zero = omega arith
 largest-most (suc zero) = omega arith
 largest-most (suc (suc k)) = omega arith
@@ -148,20 +149,20 @@ module _ (b : Entries) (k : ℕ) (o : Outcome (List ℕ)) where
       f ∙ ap (λ (x : Outcome (List ℕ)). joined x (entry (b k i))) e ∙ joined-joined o (listed (ids k 0 i) b) (entry (b k i)) ∙ ap (joined o) (sym (listed-next b k i))
 
   -- all of them
-  pub kind-done : (i n : ℕ) (p : Outcome (List ℕ)) (r : Stop) → i ≡ n → p ≡ joined o (listed (ids k 0 i) b) → StopsBy r (listAt k i)
-      → (p ≡ joined o (listed (ids k 0 n) b)) × StopsBy r (listAt k n)
+  pub kind-done : (i n : ℕ) (p : Outcome (List ℕ)) (r : Size) → i ≡ n → p ≡ joined o (listed (ids k 0 i) b) → AtMost r (listAt k i)
+      → (p ≡ joined o (listed (ids k 0 n) b)) × AtMost r (listAt k n)
   kind-done i n p r e f h = (rw e at f, rw e at h)
 
 -- ---- all places
 
 -- the three kinds one after another
-pub all-listed : (b : Entries) (l m n : Outcome (List ℕ)) → l ≡ joined (value [] 0) (listed (ids 0 0 8) b) → m ≡ joined l (listed (ids 1 0 4) b) → n ≡ joined m (listed (ids 2 0 8) b) → n ≡ listed names b
+pub all-listed : (b : Entries) (l m n : Outcome (List ℕ)) → l ≡ joined (value [] 0) (listed (ids 0 0 (largestId 0 + 1)) b) → m ≡ joined l (listed (ids 1 0 (largestId 1 + 1)) b) → n ≡ joined m (listed (ids 2 0 (largestId 2 + 1)) b) → n ≡ listed names b
 all-listed b l m n e f g =
-    let x = listed (ids 0 0 8) b in
-    let y = listed (ids 1 0 4) b in
-    let z = listed (ids 2 0 8) b in
+    let x = listed (ids 0 0 (largestId 0 + 1)) b in
+    let y = listed (ids 1 0 (largestId 1 + 1)) b in
+    let z = listed (ids 2 0 (largestId 2 + 1)) b in
     let u : l ≡ x = e ∙ joined-first x in
-    rw (g, f, u) (joined-joined x y z ∙ ap (joined x) (sym (listed-append b (ids 1 0 4) (ids 2 0 8))) ∙ sym (listed-append b (ids 0 0 8) (ids 1 0 4 ++ ids 2 0 8)))
+    rw (g, f, u) (joined-joined x y z ∙ ap (joined x) (sym (listed-append b (ids 1 0 (largestId 1 + 1)) (ids 2 0 (largestId 2 + 1)))) ∙ sym (listed-append b (ids 0 0 (largestId 0 + 1)) (ids 1 0 (largestId 1 + 1) ++ ids 2 0 (largestId 2 + 1))))
 
 -- ---- the list
 

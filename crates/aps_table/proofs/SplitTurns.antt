@@ -9,7 +9,7 @@ use native.Mathlib.Omega.{arith}
 use lib.ListN.{length, getD, drop, drop-of-length-le}
 use lib.Seq.{drop-cons, drop-drop, take-add, take-append-seam}
 use Rattle.aps_table.specs.Split.{Units, prepend, ended, gap, body}
-use Rattle.aps_table.specs.NextUnit.{Skipped, InUnit, UnitEnd, Follows, part, splits}
+use Rattle.aps_table.specs.Inner.{Skipped, InUnit, UnitEnd, Follows, between, splits}
 use Rattle.aps_table.proofs.SplitLaws.{prepend-nil, prepend-prepend}
 use Rattle.aps_table.specs.declared.split.Next.the-variants as Next
 
@@ -62,7 +62,7 @@ module _ (s : List ℕ) (e : ℕ) where
   on : (n : ℕ) (v : List ℕ) → e + suc n ≤ length s → length v ≡ suc n → drop e s ≡ v ++ drop (e + suc n) s → body 0 (v ++ drop (e + suc n) s) ≡ prepend v (body 0 (drop (e + suc n) s)) → (e < e + suc n) × InUnit s e (e + suc n)
   on n v h l d b =
       let k : e + suc n - e ≡ length v = omega (arith, l) in
-      let p : part s e (e + suc n) ≡ v = rw (k, d) (take-append-seam v (drop (e + suc n) s)) in
+      let p : between s e (e + suc n) ≡ v = rw (k, d) (take-append-seam v (drop (e + suc n) s)) in
       (omega arith, record { from = omega arith; to = h; is = rw (p, d) b })
 
   -- a step of one byte, of two, of three
@@ -115,26 +115,26 @@ module _ (s : List ℕ) (a : ℕ) where
   in-unit h = record { from = omega arith; to = h; is = rw sub-self (sym (prepend-nil (body 0 (drop a s)))) }
 
   -- the bytes of two steps
-  parts : (e r : ℕ) → a ≤ e → e ≤ r → (x : Units) → prepend (part s a e) (prepend (part s e r) x) ≡ prepend (part s a r) x
+  parts : (e r : ℕ) → a ≤ e → e ≤ r → (x : Units) → prepend (between s a e) (prepend (between s e r) x) ≡ prepend (between s a r) x
   parts e r h k x =
       let there : drop (e - a) (drop a s) ≡ drop e s = drop-drop (e - a) a s ∙ ap (λ (n : ℕ). drop n s) (add-sub-of-le h) in
       let n : r - a ≡ e - a + (r - e) = omega arith in
-      let p : part s a r ≡ part s a e ++ part s e r = rw (n, take-add (e - a) (r - e) (drop a s), there) in
-      rw p (prepend-prepend (part s a e) (part s e r) x)
+      let p : between s a r ≡ between s a e ++ between s e r = rw (n, take-add (e - a) (r - e) (drop a s), there) in
+      rw p (prepend-prepend (between s a e) (between s e r) x)
 
   -- a step, and the last one
   pub goes-on : (e r : ℕ) → InUnit s a e → InUnit s e r → InUnit s a r
   goes-on e r u v = record {
     from = omega (arith, u .from, v .from);
     to = v .to;
-    is = u .is ∙ ap (prepend (part s a e)) (v .is) ∙ parts e r (u .from) (v .from) (body 0 (drop r s));
+    is = u .is ∙ ap (prepend (between s a e)) (v .is) ∙ parts e r (u .from) (v .from) (body 0 (drop r s));
   }
 
   pub ends-at : (e r : ℕ) → InUnit s a e → UnitEnd s e r → UnitEnd s a r
   ends-at e r u v = record {
     from = omega (arith, u .from, v .from);
     to = v .to;
-    ends = u .is ∙ ap (prepend (part s a e)) (v .ends) ∙ parts e r (u .from) (v .from) (ended (gap 0 (drop r s)));
+    ends = u .is ∙ ap (prepend (between s a e)) (v .ends) ∙ parts e r (u .from) (v .from) (ended (gap 0 (drop r s)));
   }
 
 -- what stands after the zero bytes
@@ -183,4 +183,4 @@ splits-ended v (some us) = refl
 
 -- past a unit the split holds as it does from the unit's end on
 pub splits-next : {s : List ℕ} {i a e : ℕ} → Follows s i (Next.Unit a e) → splits (gap 0 (drop i s)) ≡ splits (gap 0 (drop e s))
-splits-next {s} {a} {e} f = ap splits (f .is) ∙ splits-ended (part s a e) (gap 0 (drop e s))
+splits-next {s} {a} {e} f = ap splits (f .is) ∙ splits-ended (between s a e) (gap 0 (drop e s))

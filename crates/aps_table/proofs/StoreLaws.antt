@@ -4,7 +4,7 @@ use mathlib.Core.Bool.{Bool, true, false, cond, _&&_, false≢true}
 use mathlib.Core.List.{List, [], _∷_, _++_, append-assoc}
 use mathlib.Core.Option.{none, some}
 use mathlib.Core.Logic.{_⊎_, inl, inr}
-use Prim.Native.Nat.{ℕ, zero, suc, _+_, _-_, _*_, _/_, _≤_, _<_}
+use Prim.Native.Nat.{ℕ, zero, suc, _+_, _-_, _/_, _≤_, _<_}
 use native.Mathlib.Omega.{arith}
 use borrow.Author.Tests.{eqb-true, eq-eqb, leb-true, leb-false}
 use lib.Dec.{eqb, leb}
@@ -18,7 +18,7 @@ use Rattle.aps.specs.declared.aps.ApsKind.{ApsKind}
 use Rattle.aps.specs.declared.aps.VvcAps.{VvcAps}
 use Rattle.aps.proofs.RbspLaws.{rbsp-id, rbsp-end, read-most}
 use Rattle.aps.proofs.LocalLaws.{zeros-none, rbsp-copy}
-use Rattle.aps_table.specs.Places.{Names, placeSize, placeAt, placeBytes, newTable, kindIn, idIn, under, held}
+use Rattle.aps_table.specs.Places.{Names, placeAt, tableBytes, placeBytes, newTable, kindIn, idIn, under, held}
 use Rattle.aps_table.specs.Book.{replace}
 use Rattle.aps_table.proofs.PlaceSteps.{place-within}
 
@@ -62,7 +62,7 @@ either-way i j d = go (leb i j) refl
 
 -- two places have no byte in common
 Apart : ℕ → ℕ → ℕ → ℕ → Type 0
-Apart k i l j = (placeAt l j + placeSize l ≤ placeAt k i) ⊎ (placeAt k i + placeSize k ≤ placeAt l j)
+Apart k i l j = (placeAt l j + mostBytes l ≤ placeAt k i) ⊎ (placeAt k i + mostBytes k ≤ placeAt l j)
 
 same-kind : (k i j : ℕ) → (j < i) ⊎ (i < j) → Apart k i k j
 unfolding Apart
@@ -86,23 +86,23 @@ places-apart (suc (suc k)) i (suc zero) j n m d = inl (omega arith)
 places-apart (suc (suc k)) i (suc (suc l)) j n m d = same-kind 2 i j (either-way i j (λ q. d (omega arith, q)))
 
 -- bytes stored at one place leave every other as it was
-place-other : (t bytes : List ℕ) (k i l j : ℕ) → Names k i → Names l j → ((k ≡ l) × (i ≡ j) → ⊥) → length bytes ≤ placeSize k
+place-other : (t bytes : List ℕ) (k i l j : ℕ) → Names k i → Names l j → ((k ≡ l) × (i ≡ j) → ⊥) → length bytes ≤ mostBytes k
     → placeBytes (sets t (placeAt k i) bytes) l j ≡ placeBytes t l j
 unfolding placeBytes Apart
 place-other t bytes k i l j n m d h = by (places-apart k i l j n m d)
   where
-    by : Apart k i l j → take (placeSize l) (drop (placeAt l j) (sets t (placeAt k i) bytes)) ≡ take (placeSize l) (drop (placeAt l j) t)
-    by (inl e) = window-before bytes t (placeAt k i) (placeAt l j) (placeSize l) e
-    by (inr e) = ap (take (placeSize l)) (window-behind bytes t (placeAt k i) (placeAt l j) (omega arith))
+    by : Apart k i l j → take (mostBytes l) (drop (placeAt l j) (sets t (placeAt k i) bytes)) ≡ take (mostBytes l) (drop (placeAt l j) t)
+    by (inl e) = window-before bytes t (placeAt k i) (placeAt l j) (mostBytes l) e
+    by (inr e) = ap (take (mostBytes l)) (window-behind bytes t (placeAt k i) (placeAt l j) (omega arith))
 
 -- and stand at their own
-place-own : (t bytes : List ℕ) (k i : ℕ) → Names k i → length t ≡ 30252 → length bytes ≤ placeSize k
+place-own : (t bytes : List ℕ) (k i : ℕ) → Names k i → length t ≡ tableBytes → length bytes ≤ mostBytes k
     → (n : ℕ) → n < length bytes → getD (placeBytes (sets t (placeAt k i) bytes) k i) n 0 ≡ getD bytes n 0
 unfolding placeBytes
 place-own t bytes k i m e h n l =
     let p = placeAt k i in
     let x = drop p (sets t p bytes) in
-    getD-take (placeSize k) x n 0 (omega arith) ∙ sym (getD-take (length bytes) x n 0 l)
+    getD-take (mostBytes k) x n 0 (omega arith) ∙ sym (getD-take (length bytes) x n 0 l)
     ∙ ap (λ (v : List ℕ). getD v n 0) (window-at bytes t p (omega (arith, place-within k i m .0)))
 
 -- ---- sets
@@ -113,30 +113,23 @@ kind-names ApsKind.Alf i h = (omega arith, omega arith)
 kind-names ApsKind.Lmcs i h = (omega arith, omega arith)
 kind-names ApsKind.Scaling i h = (omega arith, omega arith)
 
-kind-size : (k : ApsKind) → mostBytes (numberOf k) ≡ placeSize (numberOf k)
-kind-size ApsKind.Alf = refl
-kind-size ApsKind.Lmcs = refl
-kind-size ApsKind.Scaling = refl
-
 module _ (r : List ℕ) (a : VvcAps) (q : ℕ) (e : readRbsp r ≡ value a q) where
   pub read-names : Names (kindIn a) (idIn a)
   unfolding kindIn idIn
   read-names = kind-names (a .kind) (a .«aps_adaptation_parameter_set_id») (rbsp-id r a q e)
 
-  pub read-fits : length (take ((q + 7) / 8) r) ≤ placeSize (kindIn a)
+  pub read-fits : length (take ((q + 7) / 8) r) ≤ mostBytes (kindIn a)
   unfolding kindIn
-  read-fits =
-      let m : q ≤ 8 * placeSize (numberOf (a .kind)) = rw (kind-size (a .kind)) at (read-most r a q e) in
-      omega (arith, length-take-le ((q + 7) / 8) r (omega (arith, rbsp-end r a q e)))
+  read-fits = omega (arith, read-most r a q e, length-take-le ((q + 7) / 8) r (omega (arith, rbsp-end r a q e)))
 
   -- so they end within the table
-  pub read-inside : placeAt (kindIn a) (idIn a) + (q + 7) / 8 ≤ 30252
+  pub read-inside : placeAt (kindIn a) (idIn a) + (q + 7) / 8 ≤ tableBytes
   read-inside =
       let l : length (take ((q + 7) / 8) r) ≡ (q + 7) / 8 = length-take-le ((q + 7) / 8) r (omega (arith, rbsp-end r a q e)) in
       omega (arith, place-within (kindIn a) (idIn a) read-names .0, read-fits)
 
   -- its place holds it
-  stored-own : (t : List ℕ) → length t ≡ 30252 → held (sets t (placeAt (kindIn a) (idIn a)) (take ((q + 7) / 8) r)) (kindIn a) (idIn a) ≡ some a
+  stored-own : (t : List ℕ) → length t ≡ tableBytes → held (sets t (placeAt (kindIn a) (idIn a)) (take ((q + 7) / 8) r)) (kindIn a) (idIn a) ≡ some a
   unfolding held
   stored-own t h =
       let n = (q + 7) / 8 in
@@ -154,7 +147,7 @@ module _ (r : List ℕ) (a : VvcAps) (q : ℕ) (e : readRbsp r ≡ value a q) wh
   stored-other t l j m d = ap (λ (s : List ℕ). under l j (readRbsp s)) (place-other t (take ((q + 7) / 8) r) (kindIn a) (idIn a) l j read-names m d read-fits)
 
   -- an accepted set replaces its place, and no other
-  pub stored : (t : List ℕ) → length t ≡ 30252 → (l j : ℕ) → Names l j
+  pub stored : (t : List ℕ) → length t ≡ tableBytes → (l j : ℕ) → Names l j
       → held (sets t (placeAt (kindIn a) (idIn a)) (take ((q + 7) / 8) r)) l j ≡ replace (kindIn a) (idIn a) (some a) (held t) l j
   stored t h l j m = go (eqb l (kindIn a)) (eqb j (idIn a)) refl refl
     where
@@ -166,9 +159,9 @@ module _ (r : List ℕ) (a : VvcAps) (q : ℕ) (e : readRbsp r ≡ value a q) wh
 
 -- ---- the new table
 
-pub new-length : length newTable ≡ 30252
+pub new-length : length newTable ≡ tableBytes
 unfolding newTable
-new-length = length-replicate {A = ℕ} 30252 0
+new-length = length-replicate {A = ℕ} tableBytes 0
 
 zeros-at : (m n : ℕ) → _≡_ {A = ℕ} (getD (replicate m 0) n 0) 0
 zeros-at zero n = refl
@@ -177,14 +170,14 @@ zeros-at (suc m) (suc n) = zeros-at m n
 
 new-zero : (k i n : ℕ) → getD (placeBytes newTable k i) n 0 ≡ 0
 unfolding placeBytes newTable
-new-zero k i n = go (leb (suc n) (placeSize k)) refl
+new-zero k i n = go (leb (suc n) (mostBytes k)) refl
   where
     x : List ℕ
-    x = drop (placeAt k i) (replicate 30252 0)
+    x = drop (placeAt k i) (replicate tableBytes 0)
 
-    go : (b : Bool) → leb (suc n) (placeSize k) ≡ b → getD (take (placeSize k) x) n 0 ≡ 0
-    go true e = getD-take (placeSize k) x n 0 (omega (arith, leb-true (suc n) (placeSize k) e)) ∙ getD-drop (placeAt k i) (replicate 30252 0) n 0 ∙ zeros-at 30252 (placeAt k i + n)
-    go false e = List·getD-eq-default (take (placeSize k) x) 0 (omega (arith, leb-false (suc n) (placeSize k) e, length-take (placeSize k) x))
+    go : (b : Bool) → leb (suc n) (mostBytes k) ≡ b → getD (take (mostBytes k) x) n 0 ≡ 0
+    go true e = getD-take (mostBytes k) x n 0 (omega (arith, leb-true (suc n) (mostBytes k) e)) ∙ getD-drop (placeAt k i) (replicate tableBytes 0) n 0 ∙ zeros-at tableBytes (placeAt k i + n)
+    go false e = List·getD-eq-default (take (mostBytes k) x) 0 (omega (arith, leb-false (suc n) (mostBytes k) e, length-take (mostBytes k) x))
 
 -- each place of a new table is empty
 pub new-none : (k i : ℕ) → held newTable k i ≡ none

@@ -10,7 +10,7 @@ use lib.ListN.{length, drop}
 use Rattle.bitstream.specs.Outcome.{value, refused}
 use Rattle.aps.specs.Unit.{workAfter}
 use Rattle.aps_table.specs.Split.{Units, split, prepend, ended, gap}
-use Rattle.aps_table.specs.NextUnit.{Follows, part, splits, unitsOf}
+use Rattle.aps_table.specs.Inner.{Follows, between, splits, unitsOf}
 use Rattle.aps_table.specs.Taking.{Verdict, accept, pass, refuse, verdict, takeUnit, takeUnits, workUnits, count, tally, noUnits}
 use Rattle.aps_table.specs.Calls.{Answer, counted, refusal, single, fitting, unitsTaken, afterUnits, counting, workAfterStream}
 use Rattle.aps_table.specs.declared.split.Next.the-variants as Next
@@ -98,11 +98,11 @@ count-one (refuse n) c = omega arith
 module _ {s w₀ t₀ w t : List ℕ} {c : Counts} {i : ℕ} (S : Streaming s w₀ t₀ w t c i) where
   -- a turn: the unit from a to e is taken
   pub turn : (a e : ℕ) (w′ t′ : List ℕ) (c′ : Counts) (r : Answer) → Follows s i (Next.Unit a e) → length w′ ≡ length w
-      → (r ≡ single (verdict (part s a e) (length w))) × ((t′ ≡ takeUnit (length w) (part s a e) t) × (w′ ≡ workAfter (part s a e) w))
+      → (r ≡ single (verdict (between s a e) (length w))) × ((t′ ≡ takeUnit (length w) (between s a e) t) × (w′ ≡ workAfter (between s a e) w))
       → ((v : Verdict) → r ≡ single v → c′ ≡ count v c) → Streaming s w₀ t₀ w′ t′ c′ e
   unfolding takeUnits workUnits tally
   turn a e w′ t′ c′ r f el (er, (et, ew)) ec =
-      let u = part s a e in
+      let u = between s a e in
       let n = next-left u (gap 0 (drop e s)) (sym (ap splits (f .is)) ∙ S .holds) in
       let l : left s i ≡ u ∷ left s e = ap unitsOf (f .is) ∙ n .0 in
       let ec′ : c′ ≡ count (verdict u (length w₀)) c = rw (S .same) at (ec (verdict u (length w)) er) in

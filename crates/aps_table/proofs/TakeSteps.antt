@@ -16,7 +16,7 @@ use Rattle.aps.specs.declared.aps.VvcAps.{VvcAps}
 use Rattle.aps.proofs.CodecLaws.{then-value, and-left, and-right}
 use Rattle.aps.proofs.RbspLaws.{rbsp-end}
 use Rattle.aps.proofs.UnitSteps.{unit-refused}
-use Rattle.aps_table.specs.Places.{placeAt, kindIn, idIn}
+use Rattle.aps_table.specs.Places.{placeAt, tableBytes, kindIn, idIn}
 use Rattle.aps_table.specs.Taking.{Verdict, accept, pass, refuse, isPassed, verdict, takeUnit, count}
 use Rattle.aps_table.specs.Calls.{accepted, passed, refusal, single}
 use Rattle.aps_table.specs.declared.table.Counts.{Counts}
@@ -86,7 +86,7 @@ module _ (u w : List ℕ) (a : VvcAps) (q : ℕ) (e : parseAps u (length w) ≡ 
   read-within = omega (arith, rbsp-end (rbspOf u) a q (unit-set .0))
 
   -- and within its place
-  read-fits : placeAt (numberOf (a .kind)) (a .«aps_adaptation_parameter_set_id») + (q + 7) / 8 ≤ 30252
+  read-fits : placeAt (numberOf (a .kind)) (a .«aps_adaptation_parameter_set_id») + (q + 7) / 8 ≤ tableBytes
   unfolding kindIn idIn
   read-fits = read-inside (rbspOf u) a q (unit-set .0)
 
@@ -109,7 +109,7 @@ module _ (u w : List ℕ) (a : VvcAps) (q : ℕ) (e : parseAps u (length w) ≡ 
       at-place = h ∙ ap (λ (k : ℕ). placeAt k (a .«aps_adaptation_parameter_set_id»)) g
 
       -- there is room for them from their place on
-      pub bytes-fit : i + length (take ((q + 7) / 8) v) ≤ 30252
+      pub bytes-fit : i + length (take ((q + 7) / 8) v) ≤ tableBytes
       bytes-fit = omega (arith, length-take-le ((q + 7) / 8) v bytes-within, at-place, read-fits)
 
       -- an accepted unit replaces its place

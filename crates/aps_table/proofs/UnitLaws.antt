@@ -1,26 +1,25 @@
 -- The unit of a set that came from a unit: it is written, has no start code in it, and comes to the same set again.
 use mathlib.Core.Path.{_≡_, refl, sym, ap, _∙_}
-use mathlib.Core.Bool.{Bool, true, false, cond, not, _&&_}
+use mathlib.Core.Bool.{Bool, true, false, cond, _&&_}
 use mathlib.Core.List.{List, [], _∷_, append-nil}
-use Prim.Native.Nat.{ℕ, zero, suc, _+_, _-_, _*_, _/_, _≤_}
+use Prim.Native.Nat.{ℕ, zero, suc, _+_, _-_, _*_, _≤_}
 use native.Mathlib.Omega.{arith}
 use lib.Dec.{leb}
 use lib.ListN.{length}
 use Rattle.bitstream.specs.Outcome.{Outcome, value, refused, _then_}
 use Rattle.bitstream.specs.Escapes.{escape, zerosAtEnd, Clean}
 use Rattle.bitstream.proofs.EscapeLaws.{none-at-end, escape-clean, escape-trailing}
-use Rattle.aps.specs.Kinds.{mostBytes}
-use Rattle.aps.specs.ApsSyntax.{numberOf, aps, inferred}
+use Rattle.aps.specs.ApsSyntax.{aps, inferred}
 use Rattle.aps.specs.Rbsp.{readRbsp, rbspBytes}
 use Rattle.aps.specs.Unit.{rbspOf, admitted, parseAps}
-use Rattle.aps.specs.declared.aps.ApsKind.{ApsKind}
 use Rattle.aps.specs.declared.aps.VvcAps.{VvcAps}
 use Rattle.aps.proofs.RbspLaws.{rbsp-sound, write-read, rbsp-some, rbsp-last}
 use Rattle.aps.specs.Writing.{unitOf}
 use Rattle.aps.proofs.RoundTrips.{unit-parsed}
 use Rattle.aps_table.specs.Places.{kindIn, extended}
-use Rattle.aps_table.specs.Taking.{accept, pass, judged, isPassed, verdict}
+use Rattle.aps_table.specs.Taking.{accept, pass, verdictOf, isPassed, verdict}
 use Rattle.aps_table.specs.List.{entryDue}
+use Rattle.aps_table.specs.Inner.{mostListed}
 use Rattle.aps_table.proofs.SplitLaws.{Fit}
 use Rattle.aps_table.proofs.ListLaws.{due-plain, entry-most}
 
@@ -29,24 +28,14 @@ pub accepted-read : (u : List ℕ) (room : ℕ) (a : VvcAps) (q : ℕ) → verdi
 unfolding verdict parseAps
 accepted-read u room a q = go (isPassed u) (admitted u room) (readRbsp (rbspOf u))
   where
-    go : (b : Bool) (o : Outcome (Unit {0})) (r : Outcome VvcAps) → cond b pass (judged (o then λ e p. r)) ≡ accept a q → r ≡ value a q
+    go : (b : Bool) (o : Outcome (Unit {0})) (r : Outcome VvcAps) → cond b pass (verdictOf (o then λ e p. r)) ≡ accept a q → r ≡ value a q
     go true o r e = cc
     go false (refused n) r e = cc
     go false (value x p) (value c m) e = cc
     go false (value x p) (refused n) e = cc
 
--- the most bytes of an entry of the list, by kind
-abbrev pub entryMost : ℕ → ℕ
-entryMost zero = 1254
-entryMost (suc zero) = 61
-entryMost (suc (suc k)) = 4402
-
-kind-most : (k : ApsKind) (n : ℕ) → n ≤ 6 + mostBytes (numberOf k) * 3 / 2 → n ≤ entryMost (numberOf k)
-kind-most ApsKind.Alf n h = omega arith
-kind-most ApsKind.Lmcs n h = omega arith
-kind-most ApsKind.Scaling n h = omega arith
-
-most-of-all : (k : ℕ) → entryMost k ≤ 4402
+-- a unit of scaling lists may be the longest
+most-of-all : (k : ℕ) → mostListed k ≤ mostListed 2
 most-of-all zero = omega arith
 most-of-all (suc zero) = omega arith
 most-of-all (suc (suc k)) = omega arith
@@ -74,7 +63,7 @@ pub record Written (a : VvcAps) : Type 0 where
   pub unit : List ℕ
   pub due : entryDue a ≡ value (0 ∷ 0 ∷ 0 ∷ 1 ∷ unit) (length (0 ∷ 0 ∷ 0 ∷ 1 ∷ unit))
   pub fit : Fit unit
-  pub small : 4 + length unit ≤ entryMost (kindIn a)
+  pub small : 4 + length unit ≤ mostListed (kindIn a)
   pub end : ℕ
   pub back : (room : ℕ) → length unit ≤ room → verdict unit room ≡ accept a end
 
@@ -95,9 +84,9 @@ module _ (r : List ℕ) (a : VvcAps) (q : ℕ) (e : readRbsp r ≡ value a q) (x
   entry-due : entryDue a ≡ value (0 ∷ 0 ∷ 0 ∷ 1 ∷ unitOf 17 (rbspBytes a)) (length (0 ∷ 0 ∷ 0 ∷ 1 ∷ unitOf 17 (rbspBytes a)))
   entry-due = due-plain a x (sound .0)
 
-  unit-small : 4 + length (unitOf 17 (rbspBytes a)) ≤ entryMost (kindIn a)
+  unit-small : 4 + length (unitOf 17 (rbspBytes a)) ≤ mostListed (kindIn a)
   unfolding kindIn
-  unit-small = omega (arith, kind-most (a .kind) (length (0 ∷ 0 ∷ 0 ∷ 1 ∷ unitOf 17 (rbspBytes a))) (entry-most a _ _ entry-due))
+  unit-small = omega (arith, entry-most a _ _ entry-due)
 
   unit-back : (room : ℕ) → length (unitOf 17 (rbspBytes a)) ≤ room → verdict (unitOf 17 (rbspBytes a)) room ≡ accept a (8 * length (rbspBytes a))
   unfolding verdict
@@ -107,7 +96,7 @@ module _ (r : List ℕ) (a : VvcAps) (q : ℕ) (e : readRbsp r ≡ value a q) (x
       = unit-parsed 17 l room refl (omega (arith, unit-small, most-of-all (kindIn a))) (omega arith) in
       let b : readRbsp l ≡ value a (8 * length l)
       = ap readRbsp (sym (append-nil l)) ∙ write-read a (sound .0) plain [] ∙ ap (λ (c : VvcAps). value c (8 * length l)) (sound .1) in
-      ap (λ (t : Bool). cond t pass (judged (parseAps (unitOf 17 l) room))) (unit-passed l) ∙ ap judged (p ∙ b)
+      ap (λ (t : Bool). cond t pass (verdictOf (parseAps (unitOf 17 l) room))) (unit-passed l) ∙ ap verdictOf (p ∙ b)
 
   pub unit-written : Written a
   unit-written = record {

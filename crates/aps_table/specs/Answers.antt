@@ -25,8 +25,8 @@ abbrev pub lookupSays : LookupOutcome → VvcAps → Looked
 lookupSays Lookup.Found a = found a
 lookupSays (Lookup.Refused e) a = missing (number e)
 
-abbrev pub looked : LookupAnswer → Looked
-looked l = lookupSays (l .outcome) (l .set)
+abbrev pub lookupAnswer : LookupAnswer → Looked
+lookupAnswer l = lookupSays (l .outcome) (l .set)
 
 -- the set given with a lookup's answer: a refusal's is the empty set
 abbrev pub setLooked : Looked → VvcAps

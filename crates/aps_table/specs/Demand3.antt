@@ -7,8 +7,8 @@ use mathlib.Core.Option.{some}
 use lib.ListN.{length, drop}
 use Rattle.bitstream.specs.Outcome.{value, refused}
 use Rattle.aps.specs.declared.aps.VvcAps.{VvcAps}
-use Rattle.aps_table.specs.Places.{Names, newTable, extended, look, lookedUp}
-use Rattle.aps_table.specs.Calls.{Call, stream, Answer, refusal, tableAfter, answerTo}
+use Rattle.aps_table.specs.Places.{Names, newTable, extended, held, filled, lookupIn, lookedUp}
+use Rattle.aps_table.specs.Calls.{Call, stream, Answer, counted, refusal, tableAfter, answerTo}
 use Rattle.aps_table.specs.List.{listDue, writeList}
 use Rattle.aps_table.specs.Book.{book, lastAccepted}
 
@@ -43,8 +43,10 @@ pub record Cut (cs : List Call) (l : List ℕ) : Type 0 where
   pub no-room : (out : List ℕ) → length out < length l → writeList (after cs) out ≡ refused 5
   -- reading it is refused with 5 where the work buffer is too short, and the table stays empty
   pub no-work : (n : ℕ) → n < length l → (answerTo (stream l n) ≡ refusal 5) × (readBack l n ≡ newTable)
-  -- else each lookup then gives the set of the last unit accepted, or 6
-  pub looks : (n : ℕ) → length l ≤ n → (k i : ℕ) → lookedUp (readBack l n) k i ≡ look (lastAccepted cs) k i
+  -- with a long enough one every unit of it is accepted: as many as places are filled
+  pub accepted : (n : ℕ) → length l ≤ n → answerTo (stream l n) ≡ counted (record { accepted = filled (held (after cs)); refused = 0; passed = 0 })
+  -- and each lookup then gives the set of the last unit accepted, or 6
+  pub looks : (n : ℕ) → length l ≤ n → (k i : ℕ) → lookedUp (readBack l n) k i ≡ lookupIn (lastAccepted cs) k i
   pub alike : (n : ℕ) → length l ≤ n → Alike (after cs) (readBack l n)
   -- and whatever calls follow, both tables give the same answers and go on alike
   pub further : (n : ℕ) → length l ≤ n → (ds : List Call)
@@ -54,7 +56,7 @@ pub record Demand3 (cs : List Call) : Type 0 where
   -- the book holds the set of the last unit accepted for each kind and id
   pub in-force : (k i : ℕ) → book cs k i ≡ lastAccepted cs k i
   -- and the lookup gives it, or 6
-  pub looks : (k i : ℕ) → lookedUp (after cs) k i ≡ look (lastAccepted cs) k i
+  pub looks : (k i : ℕ) → lookedUp (after cs) k i ≡ lookupIn (lastAccepted cs) k i
   -- a set in force with extension flag 1: the list is refused with 3
   pub extended-3 : (k i : ℕ) (a : VvcAps) → Names k i → lastAccepted cs k i ≡ some a → extended a ≡ true → (out : List ℕ) → writeList (after cs) out ≡ refused 3
   -- none: the cut

@@ -1,5 +1,4 @@
 pub mod Split
-pub mod NextUnit
 pub mod Places
 pub mod Taking
 pub mod Calls
@@ -7,3 +6,4 @@ pub mod List
 pub mod Book
 pub mod Demand3
 pub mod Answers
+pub mod Inner

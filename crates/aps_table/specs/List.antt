@@ -1,14 +1,11 @@
 -- The list at a cut (document 01, 'A stream enters the table'). 3; 2; 5.
-use Prim.Native.Nat.{ℕ, zero, suc, _+_, _*_}
+use Prim.Native.Nat.{ℕ, _+_}
 use mathlib.Core.Bool.{Bool, false, cond, _||_}
 use mathlib.Core.List.{List, [], _∷_, _++_}
 use mathlib.Core.Option.{Option, none, some}
-use lib.ListN.{length, take}
+use lib.ListN.{length}
 use Rattle.bitstream.specs.Outcome.{Outcome, value, refused, _then_}
 use Rattle.bitstream.specs.Escapes.{putBytes}
-use Rattle.aps.specs.declared.fields.Stop.{Stop}
-use Rattle.aps.specs.declared.fields.Stop.the-variants as Stop
-use Rattle.aps.specs.Inner.{outcomeStop}
 use Rattle.aps.specs.declared.aps.VvcAps.{VvcAps}
 use Rattle.aps.specs.Writing.{bytesDue, unitOf}
 use Rattle.aps_table.specs.Places.{Entries, names, extended, held}
@@ -49,19 +46,3 @@ listDue b = cond (anyExtended names b) (refused 3) (listed names b)
 -- the list written into an output: 5 comes last
 unfoldable pub writeList : List ℕ → List ℕ → Outcome (List ℕ)
 writeList t out = listDue (held t) then λ l n. putBytes out l
-
--- ---- as it is put together
-
--- the bytes up to a stop
-abbrev pub upTo : Stop → List ℕ → Outcome (List ℕ)
-upTo stop buffer = outcomeStop stop (counted stop buffer)
-  where
-    counted : Stop → List ℕ → List ℕ
-    counted (Stop.End n) l = take n l
-    counted (Stop.Refused e) l = []
-
--- the most bytes before the place of a kind's id: 1,254, 61 and 4,402 for each place of the kind
-abbrev pub listAt : ℕ → ℕ → ℕ
-listAt zero i = i * 1254
-listAt (suc zero) i = 10032 + i * 61
-listAt (suc (suc k)) i = 10276 + i * 4402

@@ -6,22 +6,17 @@ use mathlib.Core.Option.{Option, none, some}
 use lib.Dec.{leb, ltb, eqb}
 use lib.ListN.{take, drop, replicate}
 use Rattle.bitstream.specs.Outcome.{Outcome, value, refused}
+use Rattle.aps.specs.Kinds.{largestId, mostBytes}
 use Rattle.aps.specs.ApsSyntax.{numberOf}
 use Rattle.aps.specs.Rbsp.{readRbsp}
 use Rattle.aps.specs.declared.aps.VvcAps.{VvcAps}
 
--- each kind's largest id
-abbrev pub largest : ℕ → ℕ
-largest zero = 7
-largest (suc zero) = 3
-largest (suc (suc k)) = 7
-
 -- a kind and an id that name a place
 abbrev pub Names : ℕ → ℕ → Type 0
-Names k i = (k < 3) × (i ≤ largest k)
+Names k i = (k < 3) × (i ≤ largestId k)
 
 unfoldable pub named : ℕ → ℕ → Bool
-named k i = ltb k 3 && leb i (largest k)
+named k i = ltb k 3 && leb i (largestId k)
 
 -- n ids of kind k, from i on
 abbrev pub ids : ℕ → ℕ → ℕ → List (ℕ × ℕ)
@@ -30,28 +25,30 @@ ids k i (suc n) = (k, i) ∷ ids k (suc i) n
 
 -- the 20 kinds and ids: kind rising, then id rising
 abbrev pub names : List (ℕ × ℕ)
-names = ids 0 0 8 ++ (ids 1 0 4 ++ ids 2 0 8)
+names = ids 0 0 (largestId 0 + 1) ++ (ids 1 0 (largestId 1 + 1) ++ ids 2 0 (largestId 2 + 1))
 
 -- ---- the bytes
 
--- the most bytes that a set of the kind takes
-abbrev pub placeSize : ℕ → ℕ
-placeSize zero = 832
-placeSize (suc zero) = 37
-placeSize (suc (suc k)) = 2931
+-- places of `size k` bytes for each id of kind k, kind rising, then id rising: where that of id i begins
+abbrev pub offset : (ℕ → ℕ) → ℕ → ℕ → ℕ
+offset size zero i = i * size 0
+offset size (suc zero) i = (largestId 0 + 1) * size 0 + i * size 1
+offset size (suc (suc k)) i = (largestId 0 + 1) * size 0 + (largestId 1 + 1) * size 1 + i * size 2
 
--- where a place begins: 8 places of 832 bytes, 4 of 37 and 8 of 2,931
+-- a place has the most bytes that a set of its kind takes
 abbrev pub placeAt : ℕ → ℕ → ℕ
-placeAt zero i = i * 832
-placeAt (suc zero) i = 6656 + i * 37
-placeAt (suc (suc k)) i = 6804 + i * 2931
+placeAt k i = offset mostBytes k i
+
+-- up to the end of the last place
+abbrev pub tableBytes : ℕ
+tableBytes = placeAt 2 (largestId 2 + 1)
 
 unfoldable pub placeBytes : List ℕ → ℕ → ℕ → List ℕ
-placeBytes t k i = take (placeSize k) (drop (placeAt k i) t)
+placeBytes t k i = take (mostBytes k) (drop (placeAt k i) t)
 
 -- all places empty
 unfoldable pub newTable : List ℕ
-newTable = replicate 30252 0
+newTable = replicate tableBytes 0
 
 -- ---- the sets
 
@@ -78,6 +75,20 @@ under k i (refused n) = none
 unfoldable pub held : List ℕ → Entries
 held t k i = under k i (readRbsp (placeBytes t k i))
 
+-- one set or none
+abbrev pub present : Option VvcAps → ℕ
+present none = 0
+present (some a) = 1
+
+-- how many of the names have a set
+unfoldable pub filledAmong : List (ℕ × ℕ) → Entries → ℕ
+filledAmong [] b = 0
+filledAmong (n ∷ ns) b = present (b (n .0) (n .1)) + filledAmong ns b
+
+-- how many of the 20 places are filled
+abbrev pub filled : Entries → ℕ
+filled b = filledAmong names b
+
 -- ---- the lookup
 
 pub data Looked : Type 0 where
@@ -90,8 +101,8 @@ foundIn none = missing 6
 foundIn (some a) = found a
 
 -- 2: kind and id name no place
-unfoldable pub look : Entries → ℕ → ℕ → Looked
-look b k i = cond (named k i) (foundIn (b k i)) (missing 2)
+unfoldable pub lookupIn : Entries → ℕ → ℕ → Looked
+lookupIn b k i = cond (named k i) (foundIn (b k i)) (missing 2)
 
 abbrev pub lookedUp : List ℕ → ℕ → ℕ → Looked
-lookedUp t k i = look (held t) k i
+lookedUp t k i = lookupIn (held t) k i

@@ -17,9 +17,9 @@ pub data Verdict : Type 0 where
   pass : Verdict
   refuse : ℕ → Verdict
 
-abbrev pub judged : Outcome VvcAps → Verdict
-judged (value a q) = accept a q
-judged (refused n) = refuse n
+abbrev pub verdictOf : Outcome VvcAps → Verdict
+verdictOf (value a q) = accept a q
+verdictOf (refused n) = refuse n
 
 -- passed over: not over 65,536 bytes, 2 or more, and a type other than 17 or 18
 unfoldable pub isPassed : List ℕ → Bool
@@ -27,7 +27,7 @@ isPassed u = leb (length u) 65536 && (leb 2 (length u) && not (isAps (getD u 1 0
 
 -- with a work buffer of `room` bytes: accepted exactly where `parse_aps` gives a set
 unfoldable pub verdict : List ℕ → ℕ → Verdict
-verdict u room = cond (isPassed u) pass (judged (parseAps u room))
+verdict u room = cond (isPassed u) pass (verdictOf (parseAps u room))
 
 -- an accepted set replaces its place: the bytes of its RBSP that were read go there
 abbrev pub put : Verdict → List ℕ → List ℕ → List ℕ

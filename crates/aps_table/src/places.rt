@@ -10,17 +10,21 @@ ghost use mathlib.Core.Bool.{_&&_};
 ghost use lib.Dec.{eqb};
 ghost use lib.ListN.{length};
 ghost use lib.Seq.{sets};
+ghost use Rattle.aps.specs.Kinds.{mostBytes};
 ghost use Rattle.aps.specs.ApsSyntax.{numberOf};
-ghost use Rattle.aps_table.specs.Places.{named, placeAt, placeSize, newTable};
+ghost use Rattle.aps_table.specs.Places.{named, placeAt, tableBytes, newTable};
 
-// The most bytes that a set of each kind takes.
-pub const ALF_BYTES: usize = 832;
+// How many places each kind has.
+pub(crate) const ALF_PLACES: usize = Alf::MAX_ID as usize + 1;
 
-pub const LMCS_BYTES: usize = 37;
+pub(crate) const LMCS_PLACES: usize = Lmcs::MAX_ID as usize + 1;
 
-pub const SCALING_BYTES: usize = 2931;
+pub(crate) const SCALING_PLACES: usize = Scaling::MAX_ID as usize + 1;
 
-pub const TABLE_BYTES: usize = 30252;
+// Each place has the most bytes that a set of its kind takes.
+pub const TABLE_BYTES: usize = ALF_PLACES * Alf::MAX_BYTES
+    + LMCS_PLACES * Lmcs::MAX_BYTES
+    + SCALING_PLACES * Scaling::MAX_BYTES;
 
 // In each place the bytes of the RBSP last accepted for it; all zero when new.
 pub type Table = [u8; TABLE_BYTES];
@@ -59,15 +63,15 @@ pub(crate) fn is_own(kind: ApsKind, id: u8, place_kind: u8, place_id: u8) -> boo
 }
 
 pub(crate) fn place_size(kind: u8) -> usize
-    ensures { λ r. ⌜ r ≡ placeSize kind ⌝ }
+    ensures { λ r. ⌜ r ≡ mostBytes kind ⌝ }
 {
     if kind == Alf::NUMBER {
-        return ALF_BYTES;
+        return Alf::MAX_BYTES;
     }
     if kind == Lmcs::NUMBER {
-        return LMCS_BYTES;
+        return Lmcs::MAX_BYTES;
     }
-    SCALING_BYTES
+    Scaling::MAX_BYTES
 }
 
 // Where a place begins.
@@ -76,17 +80,17 @@ pub(crate) fn place_at(kind: u8, id: u8) -> usize
 {
     let i = id as usize;
     if kind == Alf::NUMBER {
-        return i * ALF_BYTES;
+        return i * Alf::MAX_BYTES;
     }
     if kind == Lmcs::NUMBER {
-        return 8 * ALF_BYTES + i * LMCS_BYTES;
+        return ALF_PLACES * Alf::MAX_BYTES + i * Lmcs::MAX_BYTES;
     }
-    8 * ALF_BYTES + 4 * LMCS_BYTES + i * SCALING_BYTES
+    ALF_PLACES * Alf::MAX_BYTES + LMCS_PLACES * Lmcs::MAX_BYTES + i * Scaling::MAX_BYTES
 }
 
 // Bytes put into the table; the rest stays.
 pub(crate) fn store(table: &mut Table, at: usize, bytes: &[u8])
-    requires { ⌜ at + length (now bytes) ≤ 30252 ⌝ }
+    requires { ⌜ at + length (now bytes) ≤ tableBytes ⌝ }
     ensures { λ r. ⌜ now (table .exit) ≡ sets (now (table .entry)) at (now (bytes .entry)) ⌝ }
 {
     let mut i: usize = 0;

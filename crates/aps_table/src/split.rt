@@ -3,7 +3,7 @@ ghost use mathlib.Core.Path.{_≡_};
 ghost use Prim.Native.Nat.{_+_, _≤_};
 ghost use lib.ListN.{length};
 ghost use Rattle.aps_table.specs.Split.{split};
-ghost use Rattle.aps_table.specs.NextUnit.{Skipped, UnitEnd, Scanned, Follows, splits};
+ghost use Rattle.aps_table.specs.Inner.{Skipped, UnitEnd, Scanned, Follows, splits};
 
 // The first place from `from` on that holds no zero byte, or the end.
 fn skip_zeros(s: &[u8], from: usize) -> usize

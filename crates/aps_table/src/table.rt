@@ -26,13 +26,13 @@ ghost use Rattle.aps.specs.Unit.{workAfter};
 ghost use Rattle.aps.specs.Rbsp.{readRbsp};
 ghost use Rattle.aps.specs.Reading.{outcomeAps};
 ghost use Rattle.aps_table.specs.Split.{split};
-ghost use Rattle.aps_table.specs.NextUnit.{splits, unitsOf};
+ghost use Rattle.aps_table.specs.Inner.{splits, unitsOf};
 ghost use Rattle.bitstream.specs.Outcome.{number};
 ghost use Rattle.aps.specs.ApsSyntax.{emptySet};
 ghost use Rattle.aps_table.specs.Places.{Names, placeBytes, missing, foundIn, held, lookedUp};
 ghost use Rattle.aps_table.specs.Taking.{Verdict, isPassed, takeUnits, workUnits, tally, noUnits, count as countOf};
 ghost use Rattle.aps_table.specs.Calls.{stream, alone, single, tableAfter, answerTo, workAfterStream};
-ghost use Rattle.aps_table.specs.Answers.{unitAnswer, streamAnswer, looked, setLooked};
+ghost use Rattle.aps_table.specs.Answers.{unitAnswer, streamAnswer, lookupAnswer, setLooked};
 
 // What a unit alone comes to.
 pub enum UnitAnswer {
@@ -197,7 +197,7 @@ fn read_place(table: &Table, kind: u8, id: u8) -> ApsReading
 }
 
 fn no_set(why: Refusal) -> LookupAnswer
-    ensures { λ r. ⌜ (looked r ≡ missing (number why)) × (r .set ≡ emptySet) ⌝ }
+    ensures { λ r. ⌜ (lookupAnswer r ≡ missing (number why)) × (r .set ≡ emptySet) ⌝ }
 {
     LookupAnswer {
         outcome: LookupOutcome::Refused(why),
@@ -208,7 +208,7 @@ fn no_set(why: Refusal) -> LookupAnswer
 // The set of a place, or 6.
 fn set_held(table: &Table, kind: u8, id: u8) -> LookupAnswer
     requires { ⌜ Names kind id ⌝ }
-    ensures answer { λ r. ⌜ looked r ≡ foundIn (held (now (table .entry)) kind id) ⌝ }
+    ensures answer { λ r. ⌜ lookupAnswer r ≡ foundIn (held (now (table .entry)) kind id) ⌝ }
     ensures set { λ r. ⌜ r .set ≡ setLooked (foundIn (held (now (table .entry)) kind id)) ⌝ }
 {
     let reading = read_place(table, kind, id);
@@ -216,8 +216,8 @@ fn set_held(table: &Table, kind: u8, id: u8) -> LookupAnswer
     let set = reading.set;
     match outcome {
         ApsOutcome::Read(_) => {
-            let held = set.kind;
-            if !is_own(held, set.aps_adaptation_parameter_set_id, kind, id) {
+            let own = set.kind;
+            if !is_own(own, set.aps_adaptation_parameter_set_id, kind, id) {
                 return no_set(Refusal::EmptyPlace);
             }
             LookupAnswer {
@@ -231,7 +231,7 @@ fn set_held(table: &Table, kind: u8, id: u8) -> LookupAnswer
 
 // The set held for a kind and an id: 2; 6.
 pub fn lookup(table: &Table, kind: u8, id: u8) -> LookupAnswer
-    ensures answer { λ r. ⌜ looked r ≡ lookedUp (now (table .entry)) kind id ⌝ }
+    ensures answer { λ r. ⌜ lookupAnswer r ≡ lookedUp (now (table .entry)) kind id ⌝ }
     ensures set { λ r. ⌜ r .set ≡ setLooked (lookedUp (now (table .entry)) kind id) ⌝ }
 {
     if !is_named(kind, id) {

@@ -5,19 +5,20 @@ use Prim.Native.Nat.{_+_, _-_, _≤_}
 use native.Mathlib.Omega.{arith}
 use denote.Ref.{now}
 use lib.ListN.{length}
-use Rattle.aps.specs.Inner.{StopsBy}
-use Rattle.aps_table.specs.Places.{ids, held, largest}
-use Rattle.aps_table.specs.List.{joined, listed, upTo, listAt}
+use Rattle.aps.specs.Kinds.{largestId}
+use Rattle.aps_table.specs.Places.{ids, held}
+use Rattle.aps_table.specs.List.{joined, listed}
+use Rattle.aps_table.specs.Inner.{upTo, AtMost, listAt, listBytes}
 use Rattle.aps_table.proofs.ListSteps.{largest-most, kind-start, kind-next, kind-done}
 use Rattle.aps_table.proofs.list.put_kind.Statement.{statement}
 use Rattle.aps_table.proofs.list.put_kind.Tie as tie
 
 abbrev Inv-loop : tie.InvT-loop
-Inv-loop table kind max-id buffer₀ stop₀ id₀ buffer stop id =
-    (id ≤ max-id + 1) × (length buffer ≡ 45492) × StopsBy stop (listAt kind id) × (upTo stop buffer ≡ joined (upTo stop₀ buffer₀) (listed (ids kind 0 id) (held table)))
+Inv-loop table kind max-id buffer₀ size₀ id₀ buffer size id =
+    (id ≤ max-id + 1) × (length buffer ≡ listBytes) × AtMost size (listAt kind id) × (upTo size buffer ≡ joined (upTo size₀ buffer₀) (listed (ids kind 0 id) (held table)))
 
 abbrev μ-loop : tie.MeasureT-loop
-μ-loop table kind max-id buffer₀ stop₀ id₀ buffer stop id = max-id + 1 - id
+μ-loop table kind max-id buffer₀ size₀ id₀ buffer size id = max-id + 1 - id
 
 loop-holds : tie.Need-loop-holds Inv-loop μ-loop
 loop-holds c =
@@ -28,7 +29,7 @@ put-place-requires : tie.Need-put-place-requires Inv-loop μ-loop
 put-place-requires c κs =
     let l = c .before .before in
     let b = l .before .before in
-    let h : l .loop .id ≤ largest (b .args .kind) = omega (arith, c .before .loop-test .taken, b .pre .1) in
+    let h : l .loop .id ≤ largestId (b .args .kind) = omega (arith, c .before .loop-test .taken, b .pre .1) in
     ((b .pre .0, h), l .loop .inv .1, l .loop .inv .2)
 
 add-id : tie.Need-add-id Inv-loop μ-loop
@@ -48,7 +49,7 @@ loop-again c =
     let t = p .before .before in
     let l = t .before in
     let b = l .before .before in
-    let w = kind-next (held (now (b .args .table))) (b .args .kind) (upTo (b .args .from) (now (b .args .buffer))) (l .loop .id) (upTo (l .loop .stop) (l .loop .buffer)) (upTo (p .put-place .result) (p .put-place .last .1 .1 .1 .0)) (l .loop .inv .3) (p .put-place .ensures .0) in
+    let w = kind-next (held (now (b .args .table))) (b .args .kind) (upTo (b .args .from) (now (b .args .buffer))) (l .loop .id) (upTo (l .loop .size) (l .loop .buffer)) (upTo (p .put-place .result) (p .put-place .last .1 .1 .1 .0)) (l .loop .inv .3) (p .put-place .ensures .0) in
     (omega (arith, t .loop-test .taken), p .put-place .ensures .1 .1, p .put-place .ensures .1 .0, w)
 
 same-length : tie.Need-same-length Inv-loop μ-loop
@@ -58,7 +59,7 @@ returns : tie.Need-returns Inv-loop μ-loop
 returns c =
     let l = c .before in
     let b = l .before .before in
-    let (w, h) = kind-done (held (now (b .args .table))) (b .args .kind) (upTo (b .args .from) (now (b .args .buffer))) (l .loop .id) (b .args .max-id + 1) (upTo (l .loop .stop) (l .loop .buffer)) (l .loop .stop) (omega (arith, c .loop-test .left)) (l .loop .inv .3) (l .loop .inv .2) in
+    let (w, h) = kind-done (held (now (b .args .table))) (b .args .kind) (upTo (b .args .from) (now (b .args .buffer))) (l .loop .id) (b .args .max-id + 1) (upTo (l .loop .size) (l .loop .buffer)) (l .loop .size) (omega (arith, c .loop-test .left)) (l .loop .inv .3) (l .loop .inv .2) in
     (w, (h, l .loop .inv .1))
 
 pub put-kind-spec : {M : Type 1} → statement M

@@ -7,6 +7,7 @@ use denote.Ref.{now}
 use lib.ListN.{length}
 use lib.Seq.{length-take-le}
 use Rattle.aps.proofs.UnitWrites.{answered-as}
+use Rattle.aps_table.specs.Inner.{listBytes}
 use Rattle.aps_table.proofs.ListSteps.{list-refused, list-bytes}
 use Rattle.aps_table.proofs.list.write_list.Statement.{statement}
 use Rattle.aps_table.proofs.list.write_list.Tie as tie
@@ -15,7 +16,7 @@ use Rattle.aps_table.proofs.list.write_list.Tie as tie
 within : (c : tie.After-known-told) → c .before .n .given .0 .0 ≤ length (c .before .before .before .before .put-all .last .1 .0)
 within c =
     let k = c .before .before .before .before in
-    let h : c .before .n .given .0 .0 ≤ 45492 = rw (c .before .n .given .1) at (k .put-all .ensures .1 .0) in
+    let h : c .before .n .given .0 .0 ≤ listBytes = rw (c .before .n .given .1) at (k .put-all .ensures .1 .0) in
     omega (arith, k .put-all .ensures .1 .1)
 
 slice-aggregate-put-all : tie.Need-slice-aggregate-put-all

@@ -5,7 +5,7 @@ use native.Mathlib.Omega.{arith}
 use borrow.Author.Needs.{needs}
 use lib.ListN.{length, drop}
 use Rattle.aps_table.specs.Split.{split, gap}
-use Rattle.aps_table.specs.NextUnit.{splits}
+use Rattle.aps_table.specs.Inner.{splits}
 use Rattle.aps_table.proofs.SplitTurns.{splits-next}
 use Rattle.aps_table.proofs.split.split_holds.Statement.{statement}
 use Rattle.aps_table.proofs.split.split_holds.Tie as tie

@@ -3,7 +3,7 @@ use Prim.Native.Nat.{_-_}
 use native.Mathlib.Omega.{arith}
 use borrow.Author.Needs.{needs}
 use lib.ListN.{length}
-use Rattle.aps_table.specs.NextUnit.{InUnit}
+use Rattle.aps_table.specs.Inner.{InUnit}
 use Rattle.aps_table.proofs.SplitTurns.{in-unit, goes-on, ends-at}
 use Rattle.aps_table.proofs.split.unit_end.Statement.{statement}
 use Rattle.aps_table.proofs.split.unit_end.Tie as tie

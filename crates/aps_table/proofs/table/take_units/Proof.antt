@@ -4,7 +4,7 @@ use Prim.Native.Nat.{_-_}
 use native.Mathlib.Omega.{arith}
 use denote.Ref.{now}
 use lib.ListN.{length}
-use Rattle.aps_table.specs.NextUnit.{Follows}
+use Rattle.aps_table.specs.Inner.{Follows}
 use Rattle.aps_table.specs.declared.split.Next.the-variants as Next
 use Rattle.aps_table.proofs.Streaming.{Streaming, start, turn, finish, not-refused}
 use Rattle.aps_table.proofs.table.take_units.Statement.{statement}
