@@ -186,7 +186,7 @@ module _ (set : VvcAps) (out : List ℕ) where
 
   -- one whose bytes are l
   module _ (l : List ℕ) (n : ℕ) (e : value l n ≡ bytesDue set) where
-    -- the bytes due are as many as are counted
+    -- the bytes due are as many as the answer says
     pub due-length : length l ≡ n
     due-length = let (x, o, w, m) = taken-due set l n (sym e) in ap length w ∙ sym m
 
@@ -200,7 +200,7 @@ module _ (set : VvcAps) (out : List ℕ) where
     unfolding writeApsNal
     nal-bytes type t h = rw t (ap (λ (o : Outcome (List ℕ)). o then λ bytes n. putBytes out (unitOf type bytes)) (sym e)) ∙ sym (unit-due out l type t h)
 
--- bytes that are counted are there
+-- a list has as many elements as can be taken from it
 pub taken-within : (n : ℕ) (l : List ℕ) → length (take n l) ≡ n → n ≤ length l
 taken-within zero l e = omega arith
 taken-within (suc n) [] e = absurd (omega arith)

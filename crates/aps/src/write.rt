@@ -160,7 +160,7 @@ pub fn write_nal(rbsp: &[u8], unit_type: u8, out: &mut [u8]) -> Size
             out[1] = unit_type * 8 + 1;
             Size::Bytes(n + 2)
         }
-        Size::Refused(why) => Size::Refused(why),
+        Size::Refused(short) => Size::Refused(short),
     }
 }
 

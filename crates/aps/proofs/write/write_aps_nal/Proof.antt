@@ -11,7 +11,7 @@ use Rattle.aps.proofs.UnitWrites.{answered-as, nal-type, nal-refused, d
 use Rattle.aps.proofs.write.write_aps_nal.Statement.{statement}
 use Rattle.aps.proofs.write.write_aps_nal.Tie as tie
 
--- the bytes that were counted are those of the set
+-- the bytes at the start of the buffer are those of the set
 due : (c : tie.After-known-told)
     → value (take (c .before .n .given .0 .0) (c .before .before .before .before .write-rbsp .last .1 .0)) (c .before .n .given .0 .0)
     ≡ bytesDue (c .before .before .before .before .before .before .before .before .before .args .set)

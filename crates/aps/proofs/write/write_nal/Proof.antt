@@ -83,8 +83,8 @@ add-t21 c =
     = rw (c .before .n .given .1) at (k .rbsp-to-ebsp .ensures .0) in
     omega (arith, unit-within (now (b .args .out)) (now (b .args .rbsp)) (b .args .unit-type) (omega arith) (omega arith) _ _ e, b .good)
 
-enum-known-why : tie.Need-enum-known-why
-enum-known-why c = search needs
+enum-known-short : tie.Need-enum-known-short
+enum-known-short c = search needs
 
 same-length : tie.Need-same-length
 same-length c = search needs
@@ -107,8 +107,8 @@ returns-5 c =
     let k = c .before .before .before .before .before in
     let j = k .before .before .before .before in
     let a = j .before .before .before .before .args in
-    let e : refused (number (c .before .why .given .0 .0)) ≡ rbspToEbsp (now (a .rbsp)) (midOf 2 (length (now (a .out)) - 2) (now (a .out)))
-    = rw (c .before .why .given .1) at (k .rbsp-to-ebsp .ensures .0) in
+    let e : refused (number (c .before .short .given .0 .0)) ≡ rbspToEbsp (now (a .rbsp)) (midOf 2 (length (now (a .out)) - 2) (now (a .out)))
+    = rw (c .before .short .given .1) at (k .rbsp-to-ebsp .ensures .0) in
     answered-as (now (a .out)) (unit-due (now (a .out)) (now (a .rbsp)) (a .unit-type) (judged j) (omega arith))
     (unit-refused (now (a .out)) (now (a .rbsp)) (a .unit-type) (omega arith) (omega arith) _ _ e (k .rbsp-to-ebsp .ensures .1))
 
@@ -130,7 +130,7 @@ write-nal-spec =
     add-out
     slice-write-out-2
     add-t21
-    enum-known-why
+    enum-known-short
     same-length
     returns-4
     same-length-2
