@@ -9,7 +9,7 @@ use native.Mathlib.Omega.{arith}
 use lib.ListN.{length, take, drop, set, length-append, length-drop}
 use lib.Seq.{sets, sets-eq, length-take-le, take-append-le, take-append-add, take-append-seam, take-take, drop-at}
 use Rattle.bitstream.specs.Outcome.{Outcome, value, refused, left, number, _then_}
-use Rattle.bitstream.specs.Escapes.{escape, putBytes, rbspToEbsp}
+use Rattle.bitstream.specs.Escapes.{putBytes}
 use Rattle.bitstream.specs.declared.Refusal.{Refusal}
 use Rattle.bitstream.specs.declared.nal.Size.{Size}
 use Rattle.bitstream.specs.declared.nal.Size.the-variants as Size
@@ -19,7 +19,7 @@ use Rattle.bitstream.proofs.WriteLaws.{wrote}
 use Rattle.aps.specs.Kinds.{largestId, mostBytes}
 use Rattle.aps.specs.Rbsp.{readRbsp}
 use Rattle.aps.specs.declared.aps.VvcAps.{VvcAps}
-use Rattle.aps.specs.Writing.{unitOf}
+use Rattle.aps.specs.Writing.{unitOf, writeNal}
 use Rattle.aps_table.specs.Places.{Entries, Names, ids, names, placeBytes, under, held, kindIn}
 use Rattle.aps_table.specs.List.{coded, entry, entryDue, joined, listed, writeList}
 use Rattle.aps_table.specs.Inner.{upTo, AtMost, mostListed, listAt, listBytes}
@@ -27,60 +27,61 @@ use Rattle.aps_table.proofs.ListLaws.{joined-first, joined-last, joined
 
 -- ---- a unit after its start code
 
--- the buffer with a start code and the header of a unit of type 17 at p, and `last` after them
+-- the buffer with a start code at p, and `last` after it
 abbrev withCode : List ℕ → ℕ → List ℕ → List ℕ
-withCode out p last = set (set (set (set (set (set (putMid (p + 6) (length out - (p + 6)) out last) p 0) (p + 1) 0) (p + 2) 0) (p + 3) 1) (p + 4) 0) (p + 5) 137
+withCode out p last = set (set (set (set (putMid (p + 4) (length out - (p + 4)) out last) p 0) (p + 1) 0) (p + 2) 0) (p + 3) 1
 
 module _ (out : List ℕ) (p : ℕ) (bytes : List ℕ) (h : (p + mostListed 2 ≤ length out) × (length bytes ≤ mostBytes 2)) where
-  -- the bytes with escapes put in
-  abbrev escaped : List ℕ
-  escaped = escape bytes
+  -- the unit of the bytes
+  abbrev unit : List ℕ
+  unit = unitOf 17 bytes
 
-  -- the buffer after the header
+  -- the buffer after the start code
   abbrev rest : List ℕ
-  rest = midOf (p + 6) (length out - (p + 6)) out
+  rest = midOf (p + 4) (length out - (p + 4)) out
 
-  -- it has room for the escaped bytes
-  unit-room : rbspToEbsp bytes rest ≡ value (escaped ++ drop (length escaped) rest) (length escaped)
-  unfolding rbspToEbsp putBytes
+  -- the unit after a start code is not too long
+  unit-small : 4 + length unit ≤ mostListed 2
+  unfolding unitOf
+  unit-small = omega (arith, h, escape-most bytes)
+
+  -- it has room for the unit
+  unit-room : writeNal bytes 17 rest ≡ value (unit ++ drop (length unit) rest) (length unit)
+  unfolding writeNal putBytes
   unit-room =
-      let m : length rest ≡ length out - (p + 6) = length-take-le (length out - (p + 6)) (drop (p + 6) out) (omega (arith, h, length-drop (p + 6) out)) in
-      rw (le-ltb 65536 (length bytes) (omega (arith, h)), le-ltb (length rest) (length escaped) (omega (arith, h, escape-most bytes)))
+      let m : length rest ≡ length out - (p + 4) = length-take-le (length out - (p + 4)) (drop (p + 4) out) (omega (arith, h, length-drop (p + 4) out)) in
+      rw (le-ltb 65536 (length bytes) (omega (arith, h)), le-ltb (length rest) (length unit) (omega (arith, h, unit-small)))
 
   -- so no refusal comes
-  pub unit-refused : (n : ℕ) → refused n ≡ rbspToEbsp bytes rest → refused n ≡ joined (value (take p out) p) (value (coded bytes) (length (coded bytes)))
+  pub unit-refused : (n : ℕ) → refused n ≡ writeNal bytes 17 rest → refused n ≡ joined (value (take p out) p) (value (coded bytes) (length (coded bytes)))
   unit-refused n f = absurd (value-refused (sym (f ∙ unit-room)))
 
-  -- the start code and the header stand before what was put
-  code-put : (more : List ℕ) → take (p + 6 + length escaped) (withCode out p (escaped ++ more)) ≡ take p out ++ coded bytes
-  unfolding unitOf
+  -- the start code stands before what was put
+  code-put : (more : List ℕ) → take (p + 4 + length unit) (withCode out p (unit ++ more)) ≡ take p out ++ coded bytes
   code-put more =
-      let s : List ℕ = 0 ∷ 0 ∷ 0 ∷ 1 ∷ 0 ∷ 137 ∷ [] in
-      let post : List ℕ = more ++ drop (length out - (p + 6)) (drop (p + 6) out) in
-      let l : List ℕ = take (p + 6) out ++ (escaped ++ post) in
-      let n₆ : length (take (p + 6) out) ≡ p + 6 = length-take-le (p + 6) out (omega (arith, h)) in
+      let s : List ℕ = 0 ∷ 0 ∷ 0 ∷ 1 ∷ [] in
+      let post : List ℕ = more ++ drop (length out - (p + 4)) (drop (p + 4) out) in
+      let l : List ℕ = take (p + 4) out ++ (unit ++ post) in
+      let n₄ : length (take (p + 4) out) ≡ p + 4 = length-take-le (p + 4) out (omega (arith, h)) in
       let n : length (take p out) ≡ p = length-take-le p out (omega (arith, h)) in
-      let t : take p l ≡ take p out = take-append-le p (take (p + 6) out) (escaped ++ post) (omega arith) ∙ take-take p (p + 6) out (omega arith) in
-      let d : drop (p + 6) l ≡ escaped ++ post = drop-at (take (p + 6) out) (escaped ++ post) (p + 6) n₆ in
-      let w : sets l p s ≡ take p out ++ (s ++ (escaped ++ post)) = sets-eq s l p (omega (arith, length-append (take (p + 6) out) (escaped ++ post))) ∙ rw (t, d) (append-assoc (take p out) s (escaped ++ post)) in
+      let t : take p l ≡ take p out = take-append-le p (take (p + 4) out) (unit ++ post) (omega arith) ∙ take-take p (p + 4) out (omega arith) in
+      let d : drop (p + 4) l ≡ unit ++ post = drop-at (take (p + 4) out) (unit ++ post) (p + 4) n₄ in
+      let w : sets l p s ≡ take p out ++ (s ++ (unit ++ post)) = sets-eq s l p (omega (arith, length-append (take (p + 4) out) (unit ++ post))) ∙ rw (t, d) (append-assoc (take p out) s (unit ++ post)) in
       let e₁ : p + 1 ≡ suc p = omega arith in
       let e₂ : p + 2 ≡ suc (suc p) = omega arith in
       let e₃ : p + 3 ≡ suc (suc (suc p)) = omega arith in
-      let e₄ : p + 4 ≡ suc (suc (suc (suc p))) = omega arith in
-      let e₅ : p + 5 ≡ suc (suc (suc (suc (suc p)))) = omega arith in
-      let m : p + 6 + length escaped ≡ length (take p out) + suc (suc (suc (suc (suc (suc (length escaped)))))) = omega arith in
-      rw (append-assoc escaped more (drop (length out - (p + 6)) (drop (p + 6) out)), e₁, e₂, e₃, e₄, e₅, w, m, take-append-add (take p out) (s ++ (escaped ++ post)) (suc (suc (suc (suc (suc (suc (length escaped))))))), take-append-seam escaped post)
+      let m : p + 4 + length unit ≡ length (take p out) + suc (suc (suc (suc (length unit)))) = omega arith in
+      rw (append-assoc unit more (drop (length out - (p + 4)) (drop (p + 4) out)), e₁, e₂, e₃, w, m, take-append-add (take p out) (s ++ (unit ++ post)) (suc (suc (suc (suc (length unit))))), take-append-seam unit post)
 
   -- the start code and the unit after it
-  pub unit-put : (last : List ℕ) (n : ℕ) → value last n ≡ rbspToEbsp bytes rest
-      → (6 + n ≤ mostListed 2) × (value (take (p + 6 + n) (withCode out p last)) (p + 6 + n) ≡ joined (value (take p out) p) (value (coded bytes) (length (coded bytes))))
-  unfolding unitOf
+  pub unit-put : (last : List ℕ) (n : ℕ) → value last n ≡ writeNal bytes 17 rest
+      → (4 + n ≤ mostListed 2) × (value (take (p + 4 + n) (withCode out p last)) (p + 4 + n) ≡ joined (value (take p out) p) (value (coded bytes) (length (coded bytes))))
   unit-put last n f =
       let g = f ∙ unit-room in
-      let w : last ≡ escaped ++ drop (length escaped) rest = cc in
-      let k : n ≡ length escaped = cc in
-      let s : p + 6 + length escaped ≡ p + suc (suc (suc (suc (suc (suc (length escaped)))))) = omega arith in
-      (omega (arith, h, escape-most bytes), rw (k, w, code-put (drop (length escaped) rest), s))
+      let w : last ≡ unit ++ drop (length unit) rest = cc in
+      let k : n ≡ length unit = cc in
+      let s : p + 4 + length unit ≡ p + suc (suc (suc (suc (length unit)))) = omega arith in
+      (omega (arith, unit-small), rw (k, w, code-put (drop (length unit) rest), s))
 
 -- ---- a place
 

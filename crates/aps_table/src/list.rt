@@ -13,9 +13,9 @@ use aps::aps::Scaling;
 use aps::aps::parse_aps_rbsp;
 use aps::nal_header::NAL_TYPE_PREFIX_APS;
 use aps::write::copy_out;
+use aps::write::write_nal;
 use bitstream::Refusal;
 use bitstream::nal::Size;
-use bitstream::nal::rbsp_to_ebsp;
 ghost use mathlib.Core.Path.{_≡_};
 ghost use Prim.Native.Nat.{_+_, _≤_, _<_};
 ghost use lib.ListN.{length};
@@ -39,15 +39,13 @@ fn put_unit(buffer: &mut [u8], at: usize, rbsp: &[u8]) -> Size
         joined (upTo (Size.Bytes at) (now (buffer .entry))) (value (coded (now (rbsp .entry))) (length (coded (now (rbsp .entry))))) ⌝ }
     ensures same { λ _. ⌜ length (now (buffer .exit)) ≡ length (now (buffer .entry)) ⌝ }
 {
-    let start = at + 6;
-    match rbsp_to_ebsp(rbsp, &mut buffer[start..]) {
+    let start = at + 4;
+    match write_nal(rbsp, NAL_TYPE_PREFIX_APS, &mut buffer[start..]) {
         Size::Bytes(n) => {
             buffer[at] = 0;
             buffer[at + 1] = 0;
             buffer[at + 2] = 0;
             buffer[at + 3] = 1;
-            buffer[at + 4] = 0;
-            buffer[at + 5] = NAL_TYPE_PREFIX_APS * 8 + 1;
             Size::Bytes(start + n)
         }
         Size::Refused(why) => Size::Refused(why),
