@@ -21,7 +21,7 @@ ghost use Prim.Native.Nat.{_-_, _≤_};
 ghost use lib.ListN.{length};
 ghost use Rattle.aps.specs.Inner.{AnswersLmcs, Headed};
 ghost use Rattle.aps.specs.Rbsp.{closed, readRbsp, parseApsRbsp};
-ghost use Rattle.aps.specs.ApsSyntax.{emptySet, zeroAlf, zeroLmcs, zeroScaling, numberOf};
+ghost use Rattle.aps.specs.ApsSyntax.{emptySet, zeroLmcs, numberOf};
 ghost use Rattle.aps.specs.Reading.{outcomeRead, outcomeAps, setGiven};
 ghost use Rattle.aps.specs.declared.aps.VvcAps.{VvcAps};
 

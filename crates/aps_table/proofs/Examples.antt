@@ -31,10 +31,10 @@ pub data Row : Type 0 where
   lists : List Call → Outcome (List ℕ) → Row
 
 -- the row with what the definitions give as its last part
-abbrev pub given : Row → Row
-given (splits s o) = splits s (split s)
-given (answers c a) = answers c (answerTo c)
-given (lists cs o) = lists cs (listDue (book cs))
+abbrev pub computed : Row → Row
+computed (splits s o) = splits s (split s)
+computed (answers c a) = answers c (answerTo c)
+computed (lists cs o) = lists cs (listDue (book cs))
 
 -- LMCS set 0 as a unit of type 17, then ALF set 0 of type 18
 abbrev pub example : List ℕ
@@ -73,6 +73,6 @@ rows =
     ∷ []
 
 -- each row is as the definitions give it
-pub example-rows : map given rows ≡ rows
+pub example-rows : map computed rows ≡ rows
 unfolding rows bitAt fieldAt fieldBits putInByte putBit putBits pack readU zeroAt zerosAt suffixAt ueValue ueFrom readUe ueZeros ueBits seValue seCode trailingValue trailingWidth trailingBits readTrailing escapeFrom unescapeFrom putBytes leadingZeros u ue _▷_ via judged when eachFrom provided never flag ueTo se seIn signed apart flat inRange lmcsSyntax toLmcs fromLmcs lmcs ceilLog2 coefficient lumaSyntax toLuma fromLuma luma alternative chromaSyntax toChroma fromChroma chroma ccSyntax toCc fromCc cc alfSyntax toAlf fromAlf alf diagNext diagScan skipped entries maxIdDelta idCoded step sums coefficients entrySyntax scalingSyntax filled keep looked look zeroAlf zeroLmcs zeroScaling payload apsSyntax toAps fromAps aps closed readRbsp rbspBits rbspBytes bytesDue gap isPassed verdict admitted parseAps tally unitsTaken kindIn idIn extended noteUnits enters entryDue unitOf listed anyExtended listDue
 example-rows = refl

@@ -1,6 +1,5 @@
 -- `put_set`: the numbers of its parts, one part after another.
 use borrow.Author.Needs.{needs}
-use native.Mathlib.Omega.{arith}
 use Rattle.aps_c.specs.Numbers.{numbers}
 use Rattle.aps_c.proofs.PutLaws.{put-then}
 use Rattle.aps_c.proofs.numbers.put_set.Statement.{statement}
