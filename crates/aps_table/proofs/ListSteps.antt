@@ -2,11 +2,13 @@
 use borrow.Author.Tests.{le-ltb}
 use borrow.Rule.Slice.PartMut.{midOf, putMid}
 use mathlib.Core.Path.{_≡_, refl, sym, ap, _∙_}
+use mathlib.Core.Bool.{Bool, true, false, cond}
 use mathlib.Core.List.{List, [], _∷_, _++_, append-assoc}
 use mathlib.Core.Option.{Option, none, some}
 use Prim.Native.Nat.{ℕ, zero, suc, _+_, _-_, _≤_}
 use native.Mathlib.Omega.{arith}
-use lib.ListN.{length, take, drop, set, length-append, length-drop}
+use lib.Dec.{ltb}
+use lib.ListN.{length, take, drop, set, length-append, length-take, length-drop}
 use lib.Seq.{sets, sets-eq, length-take-le, take-append-le, take-append-add, take-append-seam, take-take, drop-at}
 use Rattle.bitstream.specs.Outcome.{Outcome, value, refused, left, number, _then_}
 use Rattle.bitstream.specs.Escapes.{putBytes}
@@ -19,13 +21,30 @@ use Rattle.bitstream.proofs.WriteLaws.{wrote}
 use Rattle.aps.specs.Kinds.{largestId, mostBytes}
 use Rattle.aps.specs.Rbsp.{readRbsp}
 use Rattle.aps.specs.declared.aps.VvcAps.{VvcAps}
+use Rattle.aps.specs.Unit.{isAps}
 use Rattle.aps.specs.Writing.{unitOf, writeNal}
+use Rattle.aps.proofs.UnitWrites.{put-value}
 use Rattle.aps_table.specs.Places.{Entries, Names, ids, names, placeBytes, under, held, kindIn}
 use Rattle.aps_table.specs.List.{coded, entry, entryDue, joined, listed, writeList}
 use Rattle.aps_table.specs.Inner.{upTo, AtMost, mostListed, listAt, listBytes}
 use Rattle.aps_table.proofs.ListLaws.{joined-first, joined-last, joined-joined, listed-append, listed-next, held-some, listed-due, entry-fits}
 
 -- ---- a unit after its start code
+
+-- a unit that was written from place s of a buffer on ends in it
+pub nal-within : (bytes : List ℕ) (type : ℕ) (out : List ℕ) (s : ℕ) (last : List ℕ) (n : ℕ) → value last n ≡ writeNal bytes type (midOf s (length out - s) out) → s ≤ length out → s + n ≤ length out
+unfolding writeNal
+nal-within bytes type out s last n e h = go (isAps type) (ltb 65536 (length bytes)) e
+  where
+    rest : List ℕ
+    rest = midOf s (length out - s) out
+
+    go : (a b : Bool) → value last n ≡ cond a (cond b (refused 4) (putBytes rest (unitOf type bytes))) (refused 2) → s + n ≤ length out
+    go true true e = absurd (value-refused e)
+    go true false e =
+        let (w, k, l) = put-value rest (unitOf type bytes) last n e in
+        omega (arith, k, l, h, length-take (length out - s) (drop s out))
+    go false b e = absurd (value-refused e)
 
 -- the buffer with a start code at p, and `last` after it
 abbrev withCode : List ℕ → ℕ → List ℕ → List ℕ
@@ -75,13 +94,13 @@ module _ (out : List ℕ) (p : ℕ) (bytes : List ℕ) (h : (p + mostListed 2 �
 
   -- the start code and the unit after it
   pub unit-put : (last : List ℕ) (n : ℕ) → value last n ≡ writeNal bytes 17 rest
-      → (4 + n ≤ mostListed 2) × (value (take (p + 4 + n) (withCode out p last)) (p + 4 + n) ≡ joined (value (take p out) p) (value (coded bytes) (length (coded bytes))))
+      → value (take (p + 4 + n) (withCode out p last)) (p + 4 + n) ≡ joined (value (take p out) p) (value (coded bytes) (length (coded bytes)))
   unit-put last n f =
       let g = f ∙ unit-room in
       let w : last ≡ unit ++ drop (length unit) rest = cc in
       let k : n ≡ length unit = cc in
       let s : p + 4 + length unit ≡ p + suc (suc (suc (suc (length unit)))) = omega arith in
-      (omega (arith, unit-small), rw (k, w, code-put (drop (length unit) rest), s))
+      rw (k, w, code-put (drop (length unit) rest), s)
 
 -- ---- a place
 

@@ -3,7 +3,7 @@ use borrow.Author.Needs.{needs}
 use native.Mathlib.Omega.{arith}
 use denote.Ref.{now}
 use lib.ListN.{length-set}
-use Rattle.aps_table.proofs.ListSteps.{unit-put, unit-refused}
+use Rattle.aps_table.proofs.ListSteps.{nal-within, unit-put, unit-refused}
 use Rattle.aps_table.proofs.list.put_unit.Statement.{statement}
 use Rattle.aps_table.proofs.list.put_unit.Tie as tie
 
@@ -50,8 +50,8 @@ add-t14 : tie.Need-add-t14
 add-t14 c =
     let k = c .before .before .before .before .before in
     let b = k .before .before .before .before in
-    let w = unit-put (now (b .args .buffer)) (b .args .at) (now (b .args .rbsp)) (b .pre) _ _ (rw (c .before .n .given .1) at (k .write-nal .ensures .0)) in
-    omega (arith, w .0, b .pre, b .good)
+    let w = nal-within (now (b .args .rbsp)) _ (now (b .args .buffer)) _ _ _ (rw (c .before .n .given .1) at (k .write-nal .ensures .0)) (omega (arith, b .pre)) in
+    omega (arith, w, b .good)
 
 enum-known-why : tie.Need-enum-known-why
 enum-known-why c = search needs
@@ -63,7 +63,7 @@ returns : tie.Need-returns
 returns c =
     let k = c .before .before .before .before .before in
     let b = k .before .before .before .before in
-    (unit-put (now (b .args .buffer)) (b .args .at) (now (b .args .rbsp)) (b .pre) _ _ (rw (c .before .n .given .1) at (k .write-nal .ensures .0)) .1, simp length-set (search needs))
+    (unit-put (now (b .args .buffer)) (b .args .at) (now (b .args .rbsp)) (b .pre) _ _ (rw (c .before .n .given .1) at (k .write-nal .ensures .0)), simp length-set (search needs))
 
 same-length-2 : tie.Need-same-length-2
 same-length-2 c = search needs
