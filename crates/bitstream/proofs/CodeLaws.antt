@@ -23,33 +23,29 @@ use Rattle.bitstream.proofs.FieldLaws.{bit-lt, field-none, field-lt, fi
 
 -- ---- the zeros
 
-zero-yes : (s : List ℕ) (p : ℕ) → p < length s * 8 → bitAt s p ≡ 0 → zeroAt s p ≡ true
-unfolding zeroAt
-zero-yes s p h e = rw (lt-ltb _ _ h, e)
-
-zero-one : (s : List ℕ) (p : ℕ) → bitAt s p ≡ 1 → zeroAt s p ≡ false
-unfolding zeroAt
-zero-one s p e = rw (lt-ltb _ _ (bit-inside s p e), e)
-
-zero-end : (s : List ℕ) (p : ℕ) → length s * 8 ≤ p → zeroAt s p ≡ false
-unfolding zeroAt
-zero-end s p h = rw (le-ltb _ _ h)
-
 zeros-stop : (s : List ℕ) (p most : ℕ) → zeroAt s p ≡ false → zerosAt s p most ≡ 0
 unfolding zerosAt
 zeros-stop s p zero e = refl
 zeros-stop s p (suc most) e = rw e
 
-pub zeros-past : (s : List ℕ) (p : ℕ) → length s * 8 ≤ p → zerosAt s p 32 ≡ 0
-zeros-past s p h = zeros-stop s p 32 (zero-end s p h)
+-- a 1 bit ends the count
+pub zeros-one : (s : List ℕ) (p most : ℕ) → bitAt s p ≡ 1 → zerosAt s p most ≡ 0
+unfolding zeroAt
+zeros-one s p most e = zeros-stop s p most (rw (lt-ltb _ _ (bit-inside s p e), e))
+
+-- and so does the input's end
+pub zeros-past : (s : List ℕ) (p most : ℕ) → length s * 8 ≤ p → zerosAt s p most ≡ 0
+unfolding zeroAt
+zeros-past s p most h = zeros-stop s p most (rw (le-ltb _ _ h))
 
 zeros-none : (s : List ℕ) (p : ℕ) → zerosAt s p 0 ≡ 0
 unfolding zerosAt
 zeros-none s p = refl
 
-zeros-more : (s : List ℕ) (p most : ℕ) → zeroAt s p ≡ true → {k : ℕ} → zerosAt s (suc p) most ≡ k → zerosAt s p (suc most) ≡ suc k
-unfolding zerosAt
-zeros-more s p most t e = rw (t, e)
+-- a 0 bit adds one to the count
+pub zeros-more : (s : List ℕ) (p most : ℕ) → p < length s * 8 → bitAt s p ≡ 0 → {k : ℕ} → zerosAt s (suc p) most ≡ k → zerosAt s p (suc most) ≡ suc k
+unfolding zerosAt zeroAt
+zeros-more s p most h b e = rw (lt-ltb _ _ h, b, e)
 
 -- a product and a rest that make 0
 product-zero : (b n r : ℕ) → 0 < n → b * n + r ≡ 0 → b ≡ 0
@@ -65,7 +61,7 @@ zeros-run s p (suc z) m h e =
     let r : fieldAt s (suc p) z ≡ 0 = omega (arith, c, e) in
     let q : suc p + z ≡ p + suc z = omega arith in
     rw (suc-add z m, suc-add z (zerosAt s (p + suc z) m))
-    (zeros-more s p (z + m) (zero-yes s p (omega arith) b) (zeros-run s (suc p) z m (omega arith) r ∙ ap (λ (x : ℕ). z + zerosAt s x m) q))
+    (zeros-more s p (z + m) (omega arith) b (zeros-run s (suc p) z m (omega arith) r ∙ ap (λ (x : ℕ). z + zerosAt s x m) q))
 
 -- the count ends at a 1 bit
 module _ (s : List ℕ) (p z : ℕ) (h : z < 32) (e : fieldAt s p z ≡ 0) (o : bitAt s (p + z) ≡ 1) where
@@ -73,7 +69,7 @@ module _ (s : List ℕ) (p z : ℕ) (h : z < 32) (e : fieldAt s p z ≡ 0) (o : 
   zeros-are =
       let l : z + (32 - z) ≡ 32 = omega arith in
       ap (zerosAt s p) (sym l) ∙ zeros-run s p z (32 - z) (omega (arith, bit-inside s (p + z) o)) e
-      ∙ omega (arith, zeros-stop s (p + z) (32 - z) (zero-one s (p + z) o))
+      ∙ omega (arith, zeros-one s (p + z) (32 - z) o)
 
   suffix-is : suffixAt s p z ≡ p + z + 1
   unfolding suffixAt
@@ -141,7 +137,7 @@ module _ (s : List ℕ) (p : ℕ) (i : p < length s * 8) where
       let m : n + (zeros - n) ≡ zeros = omega arith in
       let e : fieldAt s p n ≡ 0 = product-zero (fieldAt s p n) (2 ^ (zeros - n)) (fieldAt s (p + n) (zeros - n)) (pow-pos (zeros - n))
       (sym (field-add s p n (zeros - n)) ∙ ap (fieldAt s p) m ∙ top-zero) in
-      ap (zerosAt s p) (sym l) ∙ zeros-run s p n (32 - n) (omega arith) e ∙ omega (arith, zeros-stop s (p + n) (32 - n) (zero-end s (p + n) (omega arith)))
+      ap (zerosAt s p) (sym l) ∙ zeros-run s p n (32 - n) (omega arith) e ∙ omega (arith, zeros-past s (p + n) (32 - n) (omega arith))
 
   -- a 1 bit or 32 zeros come first
   pub zeros-counted : zeros ≤ length s * 8 - p → zerosAt s p 32 ≡ zeros

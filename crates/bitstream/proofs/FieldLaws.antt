@@ -32,7 +32,7 @@ pub field-none : (s : List ℕ) (p : ℕ) → fieldAt s p 0 ≡ 0
 unfolding fieldAt
 field-none s p = refl
 
-one-bit : (s : List ℕ) (p : ℕ) → fieldAt s p 1 ≡ bitAt s p
+pub one-bit : (s : List ℕ) (p : ℕ) → fieldAt s p 1 ≡ bitAt s p
 unfolding fieldAt
 one-bit s p = rw (add-zero p) (omega arith)
 

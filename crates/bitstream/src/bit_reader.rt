@@ -213,7 +213,7 @@ impl BitReader {
         }
     }
 
-    // ue(v), clause 9.2.
+    // ue(v), clause 9.2, in its order: leadingZeroBits counted, the suffix read, the sum.
     pub fn ue(self, bytes: &[u8]) -> FieldU
         ensures { λ r. ⌜ outcomeU r ≡ ueAt (now (bytes .entry)) (self .«bit_pos») ⌝ }
     {
@@ -224,11 +224,32 @@ impl BitReader {
         if LAST_START < p {
             return FieldU::Refused(Refusal::InvalidData);
         }
-        let code = short_code(bytes, p);
-        if code == 0 {
-            return long_ue(bytes, p);
-        }
-        short_ue(code, p)
+        let end = bytes.len() * 8;
+        let mut q = p;
+        let mut zeros: u32 = 0;
+        // for( b = 0; !b; leadingZeroBits++ ) b = read_bits( 1 )
+        let leading_zero_bits = loop {
+            // Not in the clause: the input's end stops the zeros, and has no 1 bit to pass.
+            if end <= q {
+                break zeros;
+            }
+            let b = narrow(bytes, q, 1);
+            q += 1;
+            if b == 1 {
+                break zeros;
+            }
+            zeros += 1;
+            // Not in the clause: 32 zeros are refused.
+            if 32 <= zeros {
+                return FieldU::Refused(Refusal::InvalidData);
+            }
+        };
+        // read_bits( leadingZeroBits )
+        let suffix = wide(bytes, q, leading_zero_bits);
+        let after = q + leading_zero_bits as usize;
+        // codeNum = 2^leadingZeroBits - 1 + read_bits( leadingZeroBits )
+        let code_num = (1 << leading_zero_bits) - 1 + suffix;
+        FieldU::Value(code_num, BitReader { bit_pos: after })
     }
 
     // se(v), clause 9.2.2.

@@ -12,7 +12,7 @@ mul-end : tie.Need-mul-end
 mul-end c = search needs
 
 returns : tie.Need-returns
-returns c = (sym (zeros-past _ _ (c .if1 .taken)), omega arith)
+returns c = (sym (zeros-past _ _ 32 (c .if1 .taken)), omega arith)
 
 wide-requires : tie.Need-wide-requires
 wide-requires c κs = search needs
