@@ -6,20 +6,24 @@ use Prim.Native.Nat.{ℕ, zero, suc, _^_}
 use lib.Dec.{ltb}
 use Rattle.bitstream.specs.Outcome.{Outcome, value, refused, _then_}
 use Rattle.bitstream.specs.Bits.{fieldBits}
-use Rattle.bitstream.specs.Fields.{readU, readUe, ueBits}
+use Rattle.bitstream.specs.Fields.{readU, lacks, readUe, ueAsked, ueBits}
 
 pub record Codec (A : Type 0) : Type 0 where
   pub read : List ℕ → ℕ → Outcome A
   pub emit : A → List ℕ
   pub ok : A → Bool
 
+-- a field that would pass the input's end is refused with 1
+unfoldable pub whole : Bool → Outcome ℕ → Outcome ℕ
+whole lacking o = o then λ v q. cond lacking (refused 1) (value v q)
+
 -- u(n)
 unfoldable pub u : ℕ → Codec ℕ
-u n = record { read = λ s p. readU s p n; emit = λ v. fieldBits v n; ok = λ v. ltb v (2 ^ n) }
+u n = record { read = λ s p. whole (lacks s p n) (readU s p n); emit = λ v. fieldBits v n; ok = λ v. ltb v (2 ^ n) }
 
 -- ue(v)
 unfoldable pub ue : Codec ℕ
-ue = record { read = readUe; emit = ueBits; ok = λ v. ltb v 4294967295 }
+ue = record { read = λ s p. whole (lacks s p (ueAsked s p)) (readUe s p); emit = ueBits; ok = λ v. ltb v 4294967295 }
 
 module _ {A B : Type 0} where
   -- c, then what its value says

@@ -14,6 +14,10 @@ use Rattle.bitstream.specs.Bits.{bitAt, fieldAt, fieldBits}
 unfoldable pub readU : List ℕ → ℕ → ℕ → Outcome ℕ
 readU s p n = value (fieldAt s p n) (p + n)
 
+-- bits are lacking: n bits from bit p on pass the input's last bit; no bits pass nothing
+unfoldable pub lacks : List ℕ → ℕ → ℕ → Bool
+lacks s p n = ltb 0 n && ltb (length s * 8) (p + n)
+
 -- ---- ue(v)
 
 -- bit p is in s, and is 0
@@ -42,6 +46,10 @@ ueFrom s p z =
 
 unfoldable pub readUe : List ℕ → ℕ → Outcome ℕ
 readUe s p = ueFrom s p (zerosAt s p 32)
+
+-- the bits that a ue asks for: its zeros, the 1 bit, and as many again
+unfoldable pub ueAsked : List ℕ → ℕ → ℕ
+ueAsked s p = 2 * zerosAt s p 32 + 1
 
 -- one less than the significant bits of v + 1
 unfoldable pub ueZeros : ℕ → ℕ
