@@ -1,5 +1,5 @@
 -- The refusals that the field reads share, and what an answer with a value says.
-use Prim.Native.Nat.{ℕ, _+_, _*_, _≤_, _<_}
+use Prim.Native.Nat.{ℕ, _+_, _-_, _*_, _^_, _≤_, _<_}
 use mathlib.Core.Path.{_≡_, refl, sym, _∙_}
 use mathlib.Core.List.{List}
 use mathlib.Core.Bool.{Bool, true, false, cond}
@@ -8,9 +8,9 @@ use lib.Dec.{ltb, eqb}
 use lib.ListN.{length}
 use Rattle.bitstream.specs.Outcome.{Outcome, value, refused, mapOutcome}
 use Rattle.bitstream.specs.Bits.{fieldAt}
-use Rattle.bitstream.specs.Fields.{readU, readUe, readSe, readTrailing, trailingWidth, trailingValue, seValue}
-use Rattle.bitstream.specs.Reading.{within, uAt, ueAt, seAt, trailingAt}
-use Rattle.bitstream.proofs.CodeLaws.{value-refused, ue-max}
+use Rattle.bitstream.specs.Fields.{readU, lacks, zerosAt, suffixAt, ueValue, readUe, ueAsked, readSe, readTrailing, trailingWidth, trailingValue, seValue}
+use Rattle.bitstream.specs.Reading.{within, lackingFor, uAt, ueAt, seAt, seLacking, trailingAt}
+use Rattle.bitstream.proofs.CodeLaws.{ue-read, value-refused, ue-max}
 
 module _ {A : Type 0} (s : List ℕ) (p : ℕ) (o : Outcome A) where
   pub within-long : 65536 < length s → within s p o ≡ refused 4
@@ -51,6 +51,26 @@ pub se-of-ue : (s : List ℕ) (p : ℕ) → seAt s p ≡ mapOutcome seValue (ueA
 unfolding seAt ueAt readSe
 se-of-ue s p = sym (within-map seValue s p (readUe s p))
 
+-- ---- whether bits were lacking
+
+module _ {A : Type 0} {o answer : Outcome A} {lacking : Bool} (b : Bool) where
+  pub lacking-refused : {n : ℕ} → (answer ≡ refused n) × (lacking ≡ false) → o ≡ refused n → (answer ≡ o) × (lacking ≡ lackingFor o b)
+  lacking-refused h e = rw e h
+
+  pub lacking-value : {v : A} {q : ℕ} → (answer ≡ value v q) × (lacking ≡ b) → o ≡ value v q → (answer ≡ o) × (lacking ≡ lackingFor o b)
+  lacking-value h e = rw e h
+
+lacking-map : {A B : Type 0} (f : A → B) (o : Outcome A) (b : Bool) → lackingFor (mapOutcome f o) b ≡ lackingFor o b
+lacking-map f (value a q) b = refl
+lacking-map f (refused n) b = refl
+
+-- a ue of z zeros, a suffix v from bit q on, and whether 2 * z + 1 bits were lacking
+pub ue-given : (s : List ℕ) (p : ℕ) {z q v : ℕ} {lacking : Bool} → zerosAt s p 32 ≡ z → z < 32 → q ≡ suffixAt s p z → v ≡ fieldAt s q z
+    → lacking ≡ lacks s p (2 * z + 1)
+    → (value (2 ^ z - 1 + v) (q + z) ≡ readUe s p) × (lacking ≡ lackingFor (readUe s p) (lacks s p (ueAsked s p)))
+unfolding ueAsked ueValue
+ue-given s p e h b f l = rw (ue-read s p e h, e, ← b, ← f) (refl, l)
+
 -- ---- inside the limits a call answers what the syntax reads
 
 module _ (s : List ℕ) (p : ℕ) (h : length s ≤ 65536) (l : p ≤ 1048576) where
@@ -65,6 +85,10 @@ module _ (s : List ℕ) (p : ℕ) (h : length s ≤ 65536) (l : p ≤ 1048576) w
   pub se-in : seAt s p ≡ readSe s p
   unfolding seAt
   se-in = within-in s p _ h l
+
+  pub se-lacking : seLacking s p ≡ lackingFor (readUe s p) (lacks s p (ueAsked s p))
+  unfolding seLacking readSe
+  se-lacking = rw se-in (lacking-map seValue (readUe s p) (lacks s p (ueAsked s p)))
 
   pub trailing-in : trailingAt s p ≡ readTrailing s p
   unfolding trailingAt

@@ -17,7 +17,7 @@ use mir.Val.{toZ, ofZ, SFits}
 use mir.Facts.{toZ-pos, toZ-ofZ}
 use Rattle.bitstream.specs.Outcome.{Outcome, value, refused}
 use Rattle.bitstream.specs.Bits.{bitAt, fieldAt}
-use Rattle.bitstream.specs.Fields.{zeroAt, zerosAt, suffixAt, ueValue, ueFrom, readUe, seValue}
+use Rattle.bitstream.specs.Fields.{zeroAt, zerosAt, suffixAt, ueValue, ueFrom, readUe, ueAsked, seValue}
 use Rattle.bitstream.specs.Reading.{BelowMost}
 use Rattle.bitstream.proofs.FieldLaws.{bit-lt, field-none, field-lt, field-add, field-cons, field-snoc, bit-inside, word-top, leading-zero, leading-one}
 
@@ -116,6 +116,10 @@ module _ (s : List ℕ) (p n k w : ℕ) (f : n + k ≡ 32) (e : w ≡ fieldAt s 
   code-zeros : leadingZeros 32 code ≡ 31 - z
   code-zeros = sym (leading-unique 32 code (31 - z) (suc z) (omega arith) code-lt (omega (arith, code-sum, pow-suc 2 z)))
 
+  pub code-asked : ueAsked s p ≡ 63 - 2 * leadingZeros 32 code
+  unfolding ueAsked
+  code-asked = omega (arith, zeros-are s p z (omega arith) zero-bits one-after, code-zeros)
+
   pub code-answer : readUe s p ≡ value (code - 1) (p + (63 - 2 * leadingZeros 32 code))
   code-answer =
       let q : p + z + 1 + z ≡ p + (63 - 2 * leadingZeros 32 code) = omega (arith, code-zeros) in
@@ -168,6 +172,16 @@ suffix-le s p z = go (ltb (p + z) (length s * 8))
 pub ue-lt : (z v : ℕ) → z < 32 → v < 2 ^ z → ueValue z v < 4294967295
 unfolding ueValue
 ue-lt z v h l = omega (arith, pow-mono {i = z} {j = 31} (omega arith))
+
+-- a ue by its zeros
+module _ (s : List ℕ) (p : ℕ) {z : ℕ} (e : zerosAt s p 32 ≡ z) where
+  pub ue-refused : 32 ≤ z → readUe s p ≡ refused 2
+  unfolding readUe ueFrom
+  ue-refused h = rw (e, le-ltb _ _ h)
+
+  pub ue-read : z < 32 → readUe s p ≡ value (ueValue z (fieldAt s (suffixAt s p z) z)) (suffixAt s p z + z)
+  unfolding readUe ueFrom
+  ue-read h = rw (e, lt-ltb _ _ h)
 
 pub value-refused : {A : Type 0} {v : A} {q n : ℕ} → value v q ≡ refused n → ⊥
 value-refused e = let z : _≡_ {A = ℕ} 0 1 = cc in omega arith

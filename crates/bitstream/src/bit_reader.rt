@@ -7,9 +7,11 @@ ghost use Prim.Native.Nat.{_+_, _-_, _*_, _/_, _%_, _^_, _≤_, _<_};
 ghost use lib.ListN.{length, getD};
 ghost use Rattle.bitstream.specs.Bits.{fieldAt};
 ghost use lib.Count.{leadingZeros};
-ghost use Rattle.bitstream.specs.Outcome.{value, mapOutcome};
-ghost use Rattle.bitstream.specs.Fields.{zerosAt, suffixAt, readUe, seValue};
-ghost use Rattle.bitstream.specs.Reading.{outcomeU, outcomeS, outcomeT, BelowMost, uAt, ueAt, seAt, trailingAt};
+ghost use mathlib.Core.Bool.{false};
+ghost use Rattle.bitstream.specs.Outcome.{value, refused, mapOutcome, number};
+ghost use Rattle.bitstream.specs.Fields.{lacks, zerosAt, suffixAt, readUe, ueAsked, seValue};
+ghost use Rattle.bitstream.specs.Reading.{outcomeU, outcomeS, outcomeT, BelowMost};
+ghost use Rattle.bitstream.specs.Reading.{lackingFor, uAt, uLacking, ueAt, ueLacking, seAt, seLacking, trailingAt};
 
 // A position in a byte slice, as a bit.
 pub struct BitReader {
@@ -28,10 +30,53 @@ pub enum FieldS {
     Refused(Refusal),
 }
 
+// An unsigned field as it was read, and whether bits were lacking.
+pub struct ReadU {
+    pub field: FieldU,
+    pub lacking: bool,
+}
+
+// A signed field as it was read, and whether bits were lacking.
+pub struct ReadS {
+    pub field: FieldS,
+    pub lacking: bool,
+}
+
 // The position after the stop bit and the padding.
 pub enum Trailing {
     Aligned(BitReader),
     Refused(Refusal),
+}
+
+// An unsigned field that is refused lacks no bits.
+fn refused_u(why: Refusal) -> ReadU
+    ensures { λ r. ⌜ (outcomeU (r .field) ≡ refused (number why)) × (r .lacking ≡ false) ⌝ }
+{
+    ReadU {
+        field: FieldU::Refused(why),
+        lacking: false,
+    }
+}
+
+// A signed field that is refused lacks no bits.
+fn refused_s(why: Refusal) -> ReadS
+    ensures { λ r. ⌜ (outcomeS (r .field) ≡ refused (number why)) × (r .lacking ≡ false) ⌝ }
+{
+    ReadS {
+        field: FieldS::Refused(why),
+        lacking: false,
+    }
+}
+
+// Whether n bits from bit p on pass the input's last bit.
+fn lacks_bits(bytes: &[u8], p: usize, n: u32) -> bool
+    requires { ⌜ (length (now bytes) ≤ 65536) × (p ≤ 1048576) ⌝ }
+    ensures { λ r. ⌜ r ≡ lacks (now (bytes .entry)) p n ⌝ }
+{
+    if n == 0 {
+        return false;
+    }
+    bytes.len() * 8 < p + n as usize
 }
 
 // Byte i.
@@ -105,7 +150,9 @@ fn word(bytes: &[u8], p: usize) -> u32
 // A ue of at most 8 zeros from its 1 bit on, out of one word; 0 for a longer one.
 fn short_code(bytes: &[u8], p: usize) -> u32
     requires { ⌜ p ≤ 1048576 ⌝ }
-    ensures { λ r. ⌜ (r < 512) × (0 < r → readUe (now (bytes .entry)) p ≡ value (r - 1) (p + (63 - 2 * leadingZeros 32 r))) ⌝ }
+    ensures below { λ r. ⌜ r < 512 ⌝ }
+    ensures field { λ r. ⌜ (0 < r → readUe (now (bytes .entry)) p ≡ value (r - 1) (p + (63 - 2 * leadingZeros 32 r))) ⌝ }
+    ensures asked { λ r. ⌜ (0 < r → ueAsked (now (bytes .entry)) p ≡ 63 - 2 * leadingZeros 32 r) ⌝ }
 {
     let w = word(bytes, p);
     let z = u32::leading_zeros(w);
@@ -116,17 +163,19 @@ fn short_code(bytes: &[u8], p: usize) -> u32
 }
 
 // The field of a short code.
-fn short_ue(code: u32, p: usize) -> FieldU
-    requires { ⌜ (0 < code) × (code < 512) × (p ≤ 1048576) ⌝ }
-    ensures { λ r. ⌜ outcomeU r ≡ value (code - 1) (p + (63 - 2 * leadingZeros 32 code)) ⌝ }
+fn short_ue(bytes: &[u8], p: usize, code: u32) -> ReadU
+    requires { ⌜ (length (now bytes) ≤ 65536) × (p ≤ 1048576) × (0 < code) × (code < 512) ⌝ }
+    ensures field { λ r. ⌜ outcomeU (r .field) ≡ value (code - 1) (p + (63 - 2 * leadingZeros 32 code)) ⌝ }
+    ensures lacking { λ r. ⌜ r .lacking ≡ lacks (now (bytes .entry)) p (63 - 2 * leadingZeros 32 code) ⌝ }
 {
     let n = 63 - 2 * u32::leading_zeros(code);
-    FieldU::Value(
-        code - 1,
-        BitReader {
-            bit_pos: p + n as usize,
-        },
-    )
+    let after = BitReader {
+        bit_pos: p + n as usize,
+    };
+    ReadU {
+        field: FieldU::Value(code - 1, after),
+        lacking: lacks_bits(bytes, p, n),
+    }
 }
 
 // The 0 bits from bit p on, up to a 1 bit, the input's end, or 32 of them.
@@ -153,22 +202,37 @@ fn suffix_at(bytes: &[u8], p: usize, z: u32) -> usize
 }
 
 // A ue of any length.
-fn long_ue(bytes: &[u8], p: usize) -> FieldU
+fn long_ue(bytes: &[u8], p: usize) -> ReadU
     requires { ⌜ (length (now bytes) ≤ 65536) × (p ≤ 1048576) ⌝ }
-    ensures { λ r. ⌜ outcomeU r ≡ readUe (now (bytes .entry)) p ⌝ }
+    ensures field { λ r. ⌜ outcomeU (r .field) ≡ readUe (now (bytes .entry)) p ⌝ }
+    ensures lacking { λ r. ⌜ r .lacking ≡ lackingFor (readUe (now (bytes .entry)) p) (lacks (now (bytes .entry)) p (ueAsked (now (bytes .entry)) p)) ⌝ }
 {
     let z = leading_zeros(bytes, p);
     if 32 <= z {
-        return FieldU::Refused(Refusal::InvalidData);
+        return refused_u(Refusal::InvalidData);
     }
     let s = suffix_at(bytes, p, z);
     let v = wide(bytes, s, z);
-    FieldU::Value(
-        (1 << z) - 1 + v,
-        BitReader {
-            bit_pos: s + z as usize,
-        },
-    )
+    let after = BitReader {
+        bit_pos: s + z as usize,
+    };
+    ReadU {
+        field: FieldU::Value((1 << z) - 1 + v, after),
+        lacking: lacks_bits(bytes, p, 2 * z + 1),
+    }
+}
+
+// A ue, out of one word where it is short.
+fn any_ue(bytes: &[u8], p: usize) -> ReadU
+    requires { ⌜ (length (now bytes) ≤ 65536) × (p ≤ 1048576) ⌝ }
+    ensures field { λ r. ⌜ outcomeU (r .field) ≡ readUe (now (bytes .entry)) p ⌝ }
+    ensures lacking { λ r. ⌜ r .lacking ≡ lackingFor (readUe (now (bytes .entry)) p) (lacks (now (bytes .entry)) p (ueAsked (now (bytes .entry)) p)) ⌝ }
+{
+    let code = short_code(bytes, p);
+    if code == 0 {
+        return long_ue(bytes, p);
+    }
+    short_ue(bytes, p, code)
 }
 
 // The se that a ue stands for.
@@ -190,39 +254,48 @@ fn signed(field: FieldU) -> FieldS
 
 impl BitReader {
     // u(n), clause 7.2.
-    pub fn u(self, bytes: &[u8], n: u32) -> FieldU
-        ensures { λ r. ⌜ outcomeU r ≡ uAt (now (bytes .entry)) (self .«bit_pos») n ⌝ }
+    pub fn u(self, bytes: &[u8], n: u32) -> ReadU
+        ensures field { λ r. ⌜ outcomeU (r .field) ≡ uAt (now (bytes .entry)) (self .«bit_pos») n ⌝ }
+        ensures lacking { λ r. ⌜ r .lacking ≡ uLacking (now (bytes .entry)) (self .«bit_pos») n ⌝ }
     {
         let p = self.bit_pos;
         if LONGEST_INPUT < bytes.len() {
-            return FieldU::Refused(Refusal::InputTooLong);
+            return refused_u(Refusal::InputTooLong);
         }
         if LAST_START < p {
-            return FieldU::Refused(Refusal::InvalidData);
+            return refused_u(Refusal::InvalidData);
         }
         if 32 < n {
-            return FieldU::Refused(Refusal::InvalidData);
+            return refused_u(Refusal::InvalidData);
         }
         let after = BitReader {
             bit_pos: p + n as usize,
         };
+        let lacking = lacks_bits(bytes, p, n);
         if p % 8 + n as usize <= 8 {
-            FieldU::Value(narrow(bytes, p, n), after)
+            ReadU {
+                field: FieldU::Value(narrow(bytes, p, n), after),
+                lacking: lacking,
+            }
         } else {
-            FieldU::Value(wide(bytes, p, n), after)
+            ReadU {
+                field: FieldU::Value(wide(bytes, p, n), after),
+                lacking: lacking,
+            }
         }
     }
 
     // ue(v), clause 9.2, in its order: leadingZeroBits counted, the suffix read, the sum.
-    pub fn ue(self, bytes: &[u8]) -> FieldU
-        ensures { λ r. ⌜ outcomeU r ≡ ueAt (now (bytes .entry)) (self .«bit_pos») ⌝ }
+    pub fn ue(self, bytes: &[u8]) -> ReadU
+        ensures field { λ r. ⌜ outcomeU (r .field) ≡ ueAt (now (bytes .entry)) (self .«bit_pos») ⌝ }
+        ensures lacking { λ r. ⌜ r .lacking ≡ ueLacking (now (bytes .entry)) (self .«bit_pos») ⌝ }
     {
         let p = self.bit_pos;
         if LONGEST_INPUT < bytes.len() {
-            return FieldU::Refused(Refusal::InputTooLong);
+            return refused_u(Refusal::InputTooLong);
         }
         if LAST_START < p {
-            return FieldU::Refused(Refusal::InvalidData);
+            return refused_u(Refusal::InvalidData);
         }
         let end = bytes.len() * 8;
         let mut q = p;
@@ -241,7 +314,7 @@ impl BitReader {
             zeros += 1;
             // Not in the clause: 32 zeros are refused.
             if 32 <= zeros {
-                return FieldU::Refused(Refusal::InvalidData);
+                return refused_u(Refusal::InvalidData);
             }
         };
         // read_bits( leadingZeroBits )
@@ -249,25 +322,30 @@ impl BitReader {
         let after = q + leading_zero_bits as usize;
         // codeNum = 2^leadingZeroBits - 1 + read_bits( leadingZeroBits )
         let code_num = (1 << leading_zero_bits) - 1 + suffix;
-        FieldU::Value(code_num, BitReader { bit_pos: after })
+        ReadU {
+            field: FieldU::Value(code_num, BitReader { bit_pos: after }),
+            lacking: lacks_bits(bytes, p, 2 * leading_zero_bits + 1),
+        }
     }
 
     // se(v), clause 9.2.2.
-    pub fn se(self, bytes: &[u8]) -> FieldS
-        ensures { λ r. ⌜ outcomeS r ≡ seAt (now (bytes .entry)) (self .«bit_pos») ⌝ }
+    pub fn se(self, bytes: &[u8]) -> ReadS
+        ensures field { λ r. ⌜ outcomeS (r .field) ≡ seAt (now (bytes .entry)) (self .«bit_pos») ⌝ }
+        ensures lacking { λ r. ⌜ r .lacking ≡ seLacking (now (bytes .entry)) (self .«bit_pos») ⌝ }
     {
         let p = self.bit_pos;
         if LONGEST_INPUT < bytes.len() {
-            return FieldS::Refused(Refusal::InputTooLong);
+            return refused_s(Refusal::InputTooLong);
         }
         if LAST_START < p {
-            return FieldS::Refused(Refusal::InvalidData);
+            return refused_s(Refusal::InvalidData);
         }
-        let code = short_code(bytes, p);
-        if code == 0 {
-            return signed(long_ue(bytes, p));
+        let read = any_ue(bytes, p);
+        let field = read.field;
+        ReadS {
+            field: signed(field),
+            lacking: read.lacking,
         }
-        signed(short_ue(code, p))
     }
 
     // rbsp_trailing_bits(), clause 7.3.2.16: a 1 bit, then zeros to the end of the byte.

@@ -2,62 +2,53 @@
 use borrow.Author.Needs.{needs}
 use mathlib.Core.Path.{sym, ap, _∙_}
 use denote.Ref.{now}
-use native.Mathlib.Omega.{arith}
 use Rattle.bitstream.specs.Outcome.{mapOutcome}
 use Rattle.bitstream.specs.Fields.{readSe, seValue}
-use Rattle.bitstream.specs.Reading.{seAt}
+use Rattle.bitstream.specs.Reading.{seAt, seLacking}
 use Rattle.bitstream.proofs.CodeLaws.{ue-below}
-use Rattle.bitstream.proofs.CallLaws.{within-long, within-far, se-in}
+use Rattle.bitstream.proofs.CallLaws.{within-long, within-far, lacking-refused, se-in, se-lacking}
 use Rattle.bitstream.proofs.bit_reader.BitReader.se.Statement.{statement}
 use Rattle.bitstream.proofs.bit_reader.BitReader.se.Tie as tie
 
+refused-s-requires : tie.Need-refused-s-requires
+refused-s-requires c κs = search needs
+
 returns : tie.Need-returns
-unfolding seAt
-returns c = sym (within-long _ _ _ (c .if1 .taken))
+unfolding seAt seLacking
+returns c = lacking-refused _ (c .refused-s .ensures) (within-long _ _ _ (c .before .if1 .taken))
+
+refused-s-requires-2 : tie.Need-refused-s-requires-2
+refused-s-requires-2 c κs = search needs
 
 returns-2 : tie.Need-returns-2
-unfolding seAt
-returns-2 c = sym (within-far _ _ _ (c .before .if1 .left) (c .if2 .taken))
+unfolding seAt seLacking
+returns-2 c = lacking-refused _ (c .refused-s2 .ensures) (within-far _ _ _ (c .before .before .if1 .left) (c .before .if2 .taken))
 
-short-code-requires : tie.Need-short-code-requires
-short-code-requires c κs = search needs
-
-long-ue-requires : tie.Need-long-ue-requires
-long-ue-requires c κs = search needs
+any-ue-requires : tie.Need-any-ue-requires
+any-ue-requires c κs = search needs
 
 signed-requires : tie.Need-signed-requires
-signed-requires c κs = ue-below _ _ (c .long-ue .ensures)
+signed-requires c κs = ue-below _ _ (c .any-ue .ensures .0)
 
 returns-3 : tie.Need-returns-3
 unfolding readSe
 returns-3 c =
-    let a = c .before .before .before .before .before .before .before .args in
-    c .signed .ensures ∙ ap (mapOutcome seValue) (c .before .long-ue .ensures)
-    ∙ sym (se-in (now (a .bytes)) (a .self .«bit_pos») (c .before .before .before .before .before .if1 .left) (c .before .before .before .before .if2 .left))
-
-short-ue-requires : tie.Need-short-ue-requires
-short-ue-requires c κs = search needs
-
-signed-requires-2 : tie.Need-signed-requires-2
-signed-requires-2 c κs = ue-below _ _ (c .short-ue .ensures ∙ sym (c .before .before .short-code .ensures .1 (omega arith)))
-
-returns-4 : tie.Need-returns-4
-unfolding readSe
-returns-4 c =
-    let a = c .before .before .before .before .before .before .before .args in
-    c .signed2 .ensures ∙ ap (mapOutcome seValue) (c .before .short-ue .ensures ∙ sym (c .before .before .before .short-code .ensures .1 (omega arith)))
-    ∙ sym (se-in (now (a .bytes)) (a .self .«bit_pos») (c .before .before .before .before .before .if1 .left) (c .before .before .before .before .if2 .left))
+    let e = c .before .any-ue .ensures in
+    let a = c .before .before .before .before .before .args in
+    let h = c .before .before .before .if1 .left in
+    let l = c .before .before .if2 .left in (
+      c .signed .ensures ∙ ap (mapOutcome seValue) (e .0) ∙ sym (se-in (now (a .bytes)) (a .self .«bit_pos») h l),
+      e .1 ∙ sym (se-lacking (now (a .bytes)) (a .self .«bit_pos») h l),
+    )
 
 pub se-spec : {M : Type 1} → statement M
 se-spec =
     tie.close
     (tie.spec
+    refused-s-requires
     returns
+    refused-s-requires-2
     returns-2
-    short-code-requires
-    long-ue-requires
+    any-ue-requires
     signed-requires
-    returns-3
-    short-ue-requires
-    signed-requires-2
-    returns-4)
+    returns-3)

@@ -2,7 +2,7 @@
 use borrow.Author.Needs.{needs}
 use borrow.Author.Tests.{lt-ltb, le-ltb}
 use Prim.Native.Nat.{ℕ, suc, _+_, _-_, _*_, _≤_, _<_}
-use mathlib.Core.Path.{_≡_, sym, ap, _∙_}
+use mathlib.Core.Path.{_≡_, ap, _∙_}
 use mathlib.Core.List.{List}
 use mathlib.Core.Logic.{⊎-elim}
 use native.Mathlib.Omega.{arith}
@@ -10,12 +10,12 @@ use denote.Ref.{now}
 use lib.ListN.{length}
 use lib.Pow.{pow-pos}
 use Rattle.bitstream.specs.Bits.{bitAt}
-use Rattle.bitstream.specs.Fields.{zerosAt, suffixAt, ueValue, ueFrom, readUe}
-use Rattle.bitstream.specs.Reading.{ueAt}
+use Rattle.bitstream.specs.Fields.{zerosAt, suffixAt, ueValue}
+use Rattle.bitstream.specs.Reading.{ueAt, ueLacking}
 use Rattle.bitstream.proofs.ByteLaws.{one-shl}
 use Rattle.bitstream.proofs.FieldLaws.{bit-lt, one-bit, field-lt}
-use Rattle.bitstream.proofs.CodeLaws.{zeros-one, zeros-past, zeros-more, ue-lt}
-use Rattle.bitstream.proofs.CallLaws.{within-long, within-far, ue-in}
+use Rattle.bitstream.proofs.CodeLaws.{zeros-one, zeros-past, zeros-more, ue-lt, ue-refused}
+use Rattle.bitstream.proofs.CallLaws.{within-long, within-far, lacking-refused, ue-given, ue-in}
 use Rattle.bitstream.proofs.bit_reader.BitReader.ue.Statement.{statement}
 use Rattle.bitstream.proofs.bit_reader.BitReader.ue.Tie as tie
 
@@ -77,13 +77,19 @@ counted c =
     })
     (c .if3 .came)
 
+refused-u-requires : tie.Need-refused-u-requires Inv-loop μ-loop
+refused-u-requires c κs = search needs
+
 returns : tie.Need-returns Inv-loop μ-loop
-unfolding ueAt
-returns c = sym (within-long _ _ _ (c .if1 .taken))
+unfolding ueAt ueLacking
+returns c = lacking-refused _ (c .refused-u .ensures) (within-long _ _ _ (c .before .if1 .taken))
+
+refused-u-requires-2 : tie.Need-refused-u-requires-2 Inv-loop μ-loop
+refused-u-requires-2 c κs = search needs
 
 returns-2 : tie.Need-returns-2 Inv-loop μ-loop
-unfolding ueAt
-returns-2 c = sym (within-far _ _ _ (c .before .if1 .left) (c .if2 .taken))
+unfolding ueAt ueLacking
+returns-2 c = lacking-refused _ (c .refused-u2 .ensures) (within-far _ _ _ (c .before .before .if1 .left) (c .before .if2 .taken))
 
 mul-end : tie.Need-mul-end Inv-loop μ-loop
 mul-end c = search needs
@@ -100,14 +106,15 @@ add-q c = search needs
 add-zeros : tie.Need-add-zeros Inv-loop μ-loop
 add-zeros c = search needs
 
+refused-u-requires-3 : tie.Need-refused-u-requires-3 Inv-loop μ-loop
+refused-u-requires-3 c κs = search needs
+
 returns-3 : tie.Need-returns-3 Inv-loop μ-loop
-unfolding readUe ueFrom
+unfolding ueLacking
 returns-3 c =
-    let l = c .before .before .before .before in
-    rw (
-      ue-in (input l) (start l) (l .before .before .if1 .left) (l .before .if2 .left),
-      le-ltb (zerosAt (input l) (start l) 32) 32 (omega (arith, one-more (c .before))),
-    )
+    let l = c .before .before .before .before .before in
+    lacking-refused _ (c .refused-u3 .ensures)
+    (ue-in (input l) (start l) (l .before .before .if1 .left) (l .before .if2 .left) ∙ ue-refused (input l) (start l) (one-more (c .before .before)) (omega arith))
 
 loop-less : tie.Need-loop-less Inv-loop μ-loop
 loop-less c = search needs
@@ -137,20 +144,26 @@ add-code-num c =
     let h = counted (c .before .before .before) .few in
     rw (one-shl 32 z h) (omega (arith, ue-lt z (w .result) h (rw (w .ensures) (field-lt _ _ z))))
 
+mul-lacks-bits : tie.Need-mul-lacks-bits Inv-loop μ-loop
+mul-lacks-bits c = omega (arith, counted (c .before .before .before) .few)
+
+add-lacks-bits : tie.Need-add-lacks-bits Inv-loop μ-loop
+add-lacks-bits c = omega (arith, counted (c .before .before .before) .few)
+
+lacks-bits-requires : tie.Need-lacks-bits-requires Inv-loop μ-loop
+lacks-bits-requires c κs = search needs
+
 returns-4 : tie.Need-returns-4 Inv-loop μ-loop
-unfolding readUe ueFrom ueValue
+unfolding ueLacking
 returns-4 c =
-    let j = c .before .before .before in
+    let j = c .before .before .before .before in
     let l = j .before in
-    let z = j .if3 .leading-zero-bits in
+    let k = counted j in
     rw (
-      one-shl 32 z (counted j .few),
+      one-shl 32 (j .if3 .leading-zero-bits) (k .few),
       ue-in (input l) (start l) (l .before .before .if1 .left) (l .before .if2 .left),
-      counted j .all,
-      lt-ltb z 32 (counted j .few),
-      ← counted j .begins,
-      ← c .before .before .wide .ensures,
     )
+    (ue-given (input l) (start l) (k .all) (k .few) (k .begins) (c .before .before .before .wide .ensures) (c .lacks-bits .ensures))
 
 pub ue-spec : {M : Type 1} → statement M
 ue-spec =
@@ -158,13 +171,16 @@ ue-spec =
     (tie.spec
     Inv-loop
     μ-loop
+    refused-u-requires
     returns
+    refused-u-requires-2
     returns-2
     mul-end
     loop-holds
     narrow-requires
     add-q
     add-zeros
+    refused-u-requires-3
     returns-3
     loop-less
     loop-again
@@ -173,4 +189,7 @@ ue-spec =
     shl-code-num
     sub-code-num
     add-code-num
+    mul-lacks-bits
+    add-lacks-bits
+    lacks-bits-requires
     returns-4)
