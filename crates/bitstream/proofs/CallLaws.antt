@@ -9,8 +9,8 @@ use lib.ListN.{length}
 use Rattle.bitstream.specs.Outcome.{Outcome, value, refused, mapOutcome}
 use Rattle.bitstream.specs.Bits.{fieldAt}
 use Rattle.bitstream.specs.Fields.{readU, lacks, zerosAt, suffixAt, ueValue, readUe, ueAsked, readSe, readTrailing, trailingWidth, trailingValue, seValue}
-use Rattle.bitstream.specs.Reading.{within, lackingFor, uAt, ueAt, seAt, seLacking, trailingAt}
-use Rattle.bitstream.proofs.CodeLaws.{ue-read, value-refused, ue-max}
+use Rattle.bitstream.specs.Reading.{BelowMost, within, lackingFor, uAt, ueAt, ueLacking, seAt, seLacking, trailingAt}
+use Rattle.bitstream.proofs.CodeLaws.{ue-refused, ue-read, value-refused, ue-max}
 
 module _ {A : Type 0} (s : List ℕ) (p : ℕ) (o : Outcome A) where
   pub within-long : 65536 < length s → within s p o ≡ refused 4
@@ -51,6 +51,14 @@ pub se-of-ue : (s : List ℕ) (p : ℕ) → seAt s p ≡ mapOutcome seValue (ueA
 unfolding seAt ueAt readSe
 se-of-ue s p = sym (within-map seValue s p (readUe s p))
 
+lacking-map : {A B : Type 0} (f : A → B) (o : Outcome A) (b : Bool) → lackingFor (mapOutcome f o) b ≡ lackingFor o b
+lacking-map f (value a q) b = refl
+lacking-map f (refused n) b = refl
+
+pub se-lacks : (s : List ℕ) (p : ℕ) → seLacking s p ≡ ueLacking s p
+unfolding seLacking ueLacking
+se-lacks s p = rw (se-of-ue s p) (lacking-map seValue (ueAt s p) (lacks s p (ueAsked s p)))
+
 -- ---- whether bits were lacking
 
 module _ {A : Type 0} {o answer : Outcome A} {lacking : Bool} (b : Bool) where
@@ -59,17 +67,6 @@ module _ {A : Type 0} {o answer : Outcome A} {lacking : Bool} (b : Bool) where
 
   pub lacking-value : {v : A} {q : ℕ} → (answer ≡ value v q) × (lacking ≡ b) → o ≡ value v q → (answer ≡ o) × (lacking ≡ lackingFor o b)
   lacking-value h e = rw e h
-
-lacking-map : {A B : Type 0} (f : A → B) (o : Outcome A) (b : Bool) → lackingFor (mapOutcome f o) b ≡ lackingFor o b
-lacking-map f (value a q) b = refl
-lacking-map f (refused n) b = refl
-
--- a ue of z zeros, a suffix v from bit q on, and whether 2 * z + 1 bits were lacking
-pub ue-given : (s : List ℕ) (p : ℕ) {z q v : ℕ} {lacking : Bool} → zerosAt s p 32 ≡ z → z < 32 → q ≡ suffixAt s p z → v ≡ fieldAt s q z
-    → lacking ≡ lacks s p (2 * z + 1)
-    → (value (2 ^ z - 1 + v) (q + z) ≡ readUe s p) × (lacking ≡ lackingFor (readUe s p) (lacks s p (ueAsked s p)))
-unfolding ueAsked ueValue
-ue-given s p e h b f l = rw (ue-read s p e h, e, ← b, ← f) (refl, l)
 
 -- ---- inside the limits a call answers what the syntax reads
 
@@ -82,13 +79,20 @@ module _ (s : List ℕ) (p : ℕ) (h : length s ≤ 65536) (l : p ≤ 1048576) w
   unfolding ueAt
   ue-in = within-in s p _ h l
 
+  -- by the zeros z: the suffix v from bit q on, and whether 2 * z + 1 bits were lacking
+  module _ {z : ℕ} (e : zerosAt s p 32 ≡ z) where
+    pub ue-given : {q v : ℕ} {lacking : Bool} → z < 32 → q ≡ suffixAt s p z → v ≡ fieldAt s q z → lacking ≡ lacks s p (2 * z + 1)
+        → (value (2 ^ z - 1 + v) (q + z) ≡ ueAt s p) × (lacking ≡ ueLacking s p)
+    unfolding ueLacking ueAsked ueValue
+    ue-given k b f i = rw (ue-in, ue-read s p e k, e, ← b, ← f) (refl, i)
+
+    pub ue-not : {answer : Outcome ℕ} {lacking : Bool} → 32 ≤ z → (answer ≡ refused 2) × (lacking ≡ false) → (answer ≡ ueAt s p) × (lacking ≡ ueLacking s p)
+    unfolding ueLacking
+    ue-not k r = lacking-refused _ r (ue-in ∙ ue-refused s p e k)
+
   pub se-in : seAt s p ≡ readSe s p
   unfolding seAt
   se-in = within-in s p _ h l
-
-  pub se-lacking : seLacking s p ≡ lackingFor (readUe s p) (lacks s p (ueAsked s p))
-  unfolding seLacking readSe
-  se-lacking = rw se-in (lacking-map seValue (readUe s p) (lacks s p (ueAsked s p)))
 
   pub trailing-in : trailingAt s p ≡ readTrailing s p
   unfolding trailingAt
@@ -105,9 +109,10 @@ u-value s p n {v} {q} e = go (ltb 32 n) refl (within-value s p _ e .2)
     go false e f = (ltb-false _ _ e, (cc), (cc))
 
 -- the largest ue is 4,294,967,294
-pub ue-most : (s : List ℕ) (p : ℕ) {v q : ℕ} → value v q ≡ ueAt s p → v < 4294967295
+pub ue-below : (s : List ℕ) (p : ℕ) {o : Outcome ℕ} → o ≡ ueAt s p → BelowMost o
 unfolding ueAt
-ue-most s p e = ue-max s p (within-value s p _ e .2)
+ue-below s p {o = value v q} e = ue-max s p (within-value s p _ e .2)
+ue-below s p {o = refused n} e = tt
 
 pub trailing-value : (s : List ℕ) (p : ℕ) {q : ℕ} → value (tt {0}) q ≡ readTrailing s p
     → (p < length s * 8) × (fieldAt s p (trailingWidth p) ≡ trailingValue p) × (q ≡ p + trailingWidth p)

@@ -18,7 +18,6 @@ use mir.Facts.{toZ-pos, toZ-ofZ}
 use Rattle.bitstream.specs.Outcome.{Outcome, value, refused}
 use Rattle.bitstream.specs.Bits.{bitAt, fieldAt}
 use Rattle.bitstream.specs.Fields.{zeroAt, zerosAt, suffixAt, ueValue, ueFrom, readUe, ueAsked, seValue}
-use Rattle.bitstream.specs.Reading.{BelowMost}
 use Rattle.bitstream.proofs.FieldLaws.{bit-lt, field-none, field-lt, field-add, field-cons, field-snoc, bit-inside, word-top, leading-zero, leading-one}
 
 -- ---- the zeros
@@ -213,10 +212,6 @@ pub ue-end : (s : List ℕ) (p : ℕ) {v q : ℕ} → value v q ≡ readUe s p �
 ue-end s p e =
     let h = ue-value s p e in
     omega (arith, h .0, h .2, suffix-le s p (zerosAt s p 32))
-
-pub ue-below : (s : List ℕ) (p : ℕ) {o : Outcome ℕ} → o ≡ readUe s p → BelowMost o
-ue-below s p {o = value v q} e = ue-max s p e
-ue-below s p {o = refused n} e = tt
 
 -- a count that ends before its limit and inside the input ends at a 1 bit
 zeros-found : (s : List ℕ) (p m : ℕ) → zerosAt s p m < m → p + zerosAt s p m < length s * 8

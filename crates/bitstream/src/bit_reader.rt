@@ -11,7 +11,7 @@ ghost use mathlib.Core.Bool.{false};
 ghost use Rattle.bitstream.specs.Outcome.{value, refused, mapOutcome, number};
 ghost use Rattle.bitstream.specs.Fields.{lacks, zerosAt, suffixAt, readUe, ueAsked, seValue};
 ghost use Rattle.bitstream.specs.Reading.{outcomeU, outcomeS, outcomeT, BelowMost};
-ghost use Rattle.bitstream.specs.Reading.{lackingFor, uAt, uLacking, ueAt, ueLacking, seAt, seLacking, trailingAt};
+ghost use Rattle.bitstream.specs.Reading.{uAt, uLacking, ueAt, ueLacking, seAt, seLacking, trailingAt};
 
 // A position in a byte slice, as a bit.
 pub struct BitReader {
@@ -204,8 +204,8 @@ fn suffix_at(bytes: &[u8], p: usize, z: u32) -> usize
 // A ue of any length.
 fn long_ue(bytes: &[u8], p: usize) -> ReadU
     requires { ⌜ (length (now bytes) ≤ 65536) × (p ≤ 1048576) ⌝ }
-    ensures field { λ r. ⌜ outcomeU (r .field) ≡ readUe (now (bytes .entry)) p ⌝ }
-    ensures lacking { λ r. ⌜ r .lacking ≡ lackingFor (readUe (now (bytes .entry)) p) (lacks (now (bytes .entry)) p (ueAsked (now (bytes .entry)) p)) ⌝ }
+    ensures field { λ r. ⌜ outcomeU (r .field) ≡ ueAt (now (bytes .entry)) p ⌝ }
+    ensures lacking { λ r. ⌜ r .lacking ≡ ueLacking (now (bytes .entry)) p ⌝ }
 {
     let z = leading_zeros(bytes, p);
     if 32 <= z {
@@ -225,8 +225,8 @@ fn long_ue(bytes: &[u8], p: usize) -> ReadU
 // A ue, out of one word where it is short.
 fn any_ue(bytes: &[u8], p: usize) -> ReadU
     requires { ⌜ (length (now bytes) ≤ 65536) × (p ≤ 1048576) ⌝ }
-    ensures field { λ r. ⌜ outcomeU (r .field) ≡ readUe (now (bytes .entry)) p ⌝ }
-    ensures lacking { λ r. ⌜ r .lacking ≡ lackingFor (readUe (now (bytes .entry)) p) (lacks (now (bytes .entry)) p (ueAsked (now (bytes .entry)) p)) ⌝ }
+    ensures field { λ r. ⌜ outcomeU (r .field) ≡ ueAt (now (bytes .entry)) p ⌝ }
+    ensures lacking { λ r. ⌜ r .lacking ≡ ueLacking (now (bytes .entry)) p ⌝ }
 {
     let code = short_code(bytes, p);
     if code == 0 {

@@ -4,7 +4,8 @@ use mathlib.Core.Path.{sym, ap, _∙_}
 use denote.Ref.{now}
 use native.Mathlib.Omega.{arith}
 use Rattle.bitstream.specs.Fields.{lacks}
-use Rattle.bitstream.proofs.CallLaws.{lacking-value}
+use Rattle.bitstream.specs.Reading.{ueLacking}
+use Rattle.bitstream.proofs.CallLaws.{lacking-value, ue-in}
 use Rattle.bitstream.proofs.bit_reader.any_ue.Statement.{statement}
 use Rattle.bitstream.proofs.bit_reader.any_ue.Tie as tie
 
@@ -21,10 +22,13 @@ short-ue-requires : tie.Need-short-ue-requires
 short-ue-requires c κs = search needs
 
 returns-2 : tie.Need-returns-2
+unfolding ueLacking
 returns-2 c =
-    let a = c .before .before .before .before .args in
-    let s = c .before .before .short-code in
-    lacking-value _ (c .short-ue .ensures .0, c .short-ue .ensures .1 ∙ sym (ap (lacks (now (a .bytes)) (a .p)) (s .ensures .1 .1 (omega arith)))) (s .ensures .1 .0 (omega arith))
+    let b = c .before .before .before .before in
+    let k = c .before .before .short-code .ensures .1 in
+    let s = now (b .args .bytes) in
+    lacking-value _ (c .short-ue .ensures .0, c .short-ue .ensures .1 ∙ sym (ap (lacks s (b .args .p)) (k .1 (omega arith))))
+    (ue-in s (b .args .p) (b .pre .0) (b .pre .1) ∙ k .0 (omega arith))
 
 pub any-ue-spec : {M : Type 1} → statement M
 any-ue-spec =

@@ -7,8 +7,8 @@ use lib.Pow.{pow-pos}
 use Rattle.bitstream.specs.Fields.{ueValue}
 use Rattle.bitstream.proofs.ByteLaws.{one-shl}
 use Rattle.bitstream.proofs.FieldLaws.{field-lt}
-use Rattle.bitstream.proofs.CodeLaws.{ue-lt, ue-refused}
-use Rattle.bitstream.proofs.CallLaws.{lacking-refused, ue-given}
+use Rattle.bitstream.proofs.CodeLaws.{ue-lt}
+use Rattle.bitstream.proofs.CallLaws.{ue-given, ue-not}
 use Rattle.bitstream.proofs.bit_reader.long_ue.Statement.{statement}
 use Rattle.bitstream.proofs.bit_reader.long_ue.Tie as tie
 
@@ -19,7 +19,9 @@ refused-u-requires : tie.Need-refused-u-requires
 refused-u-requires c κs = search needs
 
 returns : tie.Need-returns
-returns c = lacking-refused _ (c .refused-u .ensures) (ue-refused _ _ (sym (c .before .before .leading-zeros .ensures .0)) (c .before .if1 .taken))
+returns c =
+    let b = c .before .before .before .before in
+    ue-not (now (b .args .bytes)) (b .args .p) (b .pre .0) (b .pre .1) (sym (c .before .before .leading-zeros .ensures .0)) (c .before .if1 .taken) (c .refused-u .ensures)
 
 suffix-at-requires : tie.Need-suffix-at-requires
 suffix-at-requires c κs = search needs
@@ -59,11 +61,11 @@ lacks-bits-requires c κs = search needs
 returns-2 : tie.Need-returns-2
 returns-2 c =
     let w = c .before in
-    let a = w .before .before .before .before .before .args in
+    let b = w .before .before .before .before .before in
     let z = w .before .before .before .leading-zeros .result in
     let e = sym (w .before .before .before .leading-zeros .ensures .0) in
     rw (one-shl 32 z (omega arith))
-    (ue-given (now (a .bytes)) (a .p) e (w .before .before .if1 .left) (w .before .suffix-at .ensures .0) (w .wide .ensures) (c .lacks-bits .ensures))
+    (ue-given (now (b .args .bytes)) (b .args .p) (b .pre .0) (b .pre .1) e (w .before .before .if1 .left) (w .before .suffix-at .ensures .0) (w .wide .ensures) (c .lacks-bits .ensures))
 
 pub long-ue-spec : {M : Type 1} → statement M
 long-ue-spec =

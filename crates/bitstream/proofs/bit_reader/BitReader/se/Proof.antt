@@ -3,10 +3,9 @@ use borrow.Author.Needs.{needs}
 use mathlib.Core.Path.{sym, ap, _∙_}
 use denote.Ref.{now}
 use Rattle.bitstream.specs.Outcome.{mapOutcome}
-use Rattle.bitstream.specs.Fields.{readSe, seValue}
+use Rattle.bitstream.specs.Fields.{seValue}
 use Rattle.bitstream.specs.Reading.{seAt, seLacking}
-use Rattle.bitstream.proofs.CodeLaws.{ue-below}
-use Rattle.bitstream.proofs.CallLaws.{within-long, within-far, lacking-refused, se-in, se-lacking}
+use Rattle.bitstream.proofs.CallLaws.{within-long, within-far, lacking-refused, se-of-ue, se-lacks, ue-below}
 use Rattle.bitstream.proofs.bit_reader.BitReader.se.Statement.{statement}
 use Rattle.bitstream.proofs.bit_reader.BitReader.se.Tie as tie
 
@@ -31,15 +30,12 @@ signed-requires : tie.Need-signed-requires
 signed-requires c κs = ue-below _ _ (c .any-ue .ensures .0)
 
 returns-3 : tie.Need-returns-3
-unfolding readSe
 returns-3 c =
-    let e = c .before .any-ue .ensures in
     let a = c .before .before .before .before .before .args in
-    let h = c .before .before .before .if1 .left in
-    let l = c .before .before .if2 .left in (
-      c .signed .ensures ∙ ap (mapOutcome seValue) (e .0) ∙ sym (se-in (now (a .bytes)) (a .self .«bit_pos») h l),
-      e .1 ∙ sym (se-lacking (now (a .bytes)) (a .self .«bit_pos») h l),
-    )
+    let s = now (a .bytes) in
+    let p = a .self .«bit_pos» in
+    let e = c .before .any-ue .ensures in
+    (c .signed .ensures ∙ ap (mapOutcome seValue) (e .0) ∙ sym (se-of-ue s p), e .1 ∙ sym (se-lacks s p))
 
 pub se-spec : {M : Type 1} → statement M
 se-spec =

@@ -14,8 +14,8 @@ use Rattle.bitstream.specs.Fields.{zerosAt, suffixAt, ueValue}
 use Rattle.bitstream.specs.Reading.{ueAt, ueLacking}
 use Rattle.bitstream.proofs.ByteLaws.{one-shl}
 use Rattle.bitstream.proofs.FieldLaws.{bit-lt, one-bit, field-lt}
-use Rattle.bitstream.proofs.CodeLaws.{zeros-one, zeros-past, zeros-more, ue-lt, ue-refused}
-use Rattle.bitstream.proofs.CallLaws.{within-long, within-far, lacking-refused, ue-given, ue-in}
+use Rattle.bitstream.proofs.CodeLaws.{zeros-one, zeros-past, zeros-more, ue-lt}
+use Rattle.bitstream.proofs.CallLaws.{within-long, within-far, lacking-refused, ue-given, ue-not}
 use Rattle.bitstream.proofs.bit_reader.BitReader.ue.Statement.{statement}
 use Rattle.bitstream.proofs.bit_reader.BitReader.ue.Tie as tie
 
@@ -110,11 +110,9 @@ refused-u-requires-3 : tie.Need-refused-u-requires-3 Inv-loop μ-loop
 refused-u-requires-3 c κs = search needs
 
 returns-3 : tie.Need-returns-3 Inv-loop μ-loop
-unfolding ueLacking
 returns-3 c =
     let l = c .before .before .before .before .before in
-    lacking-refused _ (c .refused-u3 .ensures)
-    (ue-in (input l) (start l) (l .before .before .if1 .left) (l .before .if2 .left) ∙ ue-refused (input l) (start l) (one-more (c .before .before)) (omega arith))
+    ue-not (input l) (start l) (l .before .before .if1 .left) (l .before .if2 .left) (one-more (c .before .before)) (omega arith) (c .refused-u3 .ensures)
 
 loop-less : tie.Need-loop-less Inv-loop μ-loop
 loop-less c = search needs
@@ -154,16 +152,12 @@ lacks-bits-requires : tie.Need-lacks-bits-requires Inv-loop μ-loop
 lacks-bits-requires c κs = search needs
 
 returns-4 : tie.Need-returns-4 Inv-loop μ-loop
-unfolding ueLacking
 returns-4 c =
     let j = c .before .before .before .before in
     let l = j .before in
     let k = counted j in
-    rw (
-      one-shl 32 (j .if3 .leading-zero-bits) (k .few),
-      ue-in (input l) (start l) (l .before .before .if1 .left) (l .before .if2 .left),
-    )
-    (ue-given (input l) (start l) (k .all) (k .few) (k .begins) (c .before .before .before .wide .ensures) (c .lacks-bits .ensures))
+    rw (one-shl 32 (j .if3 .leading-zero-bits) (k .few))
+    (ue-given (input l) (start l) (l .before .before .if1 .left) (l .before .if2 .left) (k .all) (k .few) (k .begins) (c .before .before .before .wide .ensures) (c .lacks-bits .ensures))
 
 pub ue-spec : {M : Type 1} → statement M
 ue-spec =
