@@ -1,11 +1,16 @@
-//! What each call must answer: inside document 01's domain what the Rust answers, outside it the number of the document's table.
+//! What each call must answer: inside document 01's domain what the Rust answers, outside it the number of the document's table, and 1 for
+//! a set that ends too early, as document 02 has it.
 
 pub mod sets;
+pub mod short;
 pub mod table;
 pub mod written;
 
+use std::fmt::Debug;
+
 use crate::bit_reader::BitReader;
 use crate::bit_writer::BitWriter;
+use crate::library::Field;
 use crate::{nal, BitstreamError};
 
 /// Refusals that the Rust does not have: it takes inputs of any length and any start and width, and its outputs grow.
@@ -59,25 +64,43 @@ fn reader(bytes: &[u8], at: usize) -> BitReader<'_> {
     r
 }
 
-pub fn u(bytes: &[u8], at: usize, n: u32) -> Result<(i64, usize), u32> {
+/// Whether a bit is missing by the reading that stops there; where none is, it must come to what the Rust comes to.
+fn is_short<T: PartialEq + Debug>(short: Result<T, u32>, rust: Result<T, u32>, bytes: &[u8]) -> bool {
+    let missing = short == Err(1);
+    assert!(
+        missing || short == rust,
+        "{bytes:02X?}: {short:?} with no bit missing, the Rust's {rust:?}"
+    );
+    missing
+}
+
+/// The Rust's value and place, and whether bits were lacking.
+fn field(bytes: &[u8], rust: Result<(i64, usize), u32>, short: Result<(i64, usize), u32>) -> Field {
+    let lacking = is_short(short, rust, bytes);
+    rust.map(|(value, after)| (value, after, lacking.into()))
+}
+
+pub fn u(bytes: &[u8], at: usize, n: u32) -> Field {
     document::read(bytes.len(), at, n)?;
     let mut r = reader(bytes, at);
     let v = r.u(n);
-    Ok((v.into(), r.bit_pos()))
+    field(bytes, Ok((v.into(), r.bit_pos())), short::field(bytes, at, |r| r.u(n)))
 }
 
-pub fn ue(bytes: &[u8], at: usize) -> Result<(i64, usize), u32> {
+pub fn ue(bytes: &[u8], at: usize) -> Field {
     document::read(bytes.len(), at, 0)?;
     let mut r = reader(bytes, at);
-    let v = r.ue().map_err(number)?;
-    Ok((v.into(), r.bit_pos()))
+    let v = r.ue().map_err(number);
+    let rust = v.map(|v| (v.into(), r.bit_pos()));
+    field(bytes, rust, short::field(bytes, at, |r| r.ue()))
 }
 
-pub fn se(bytes: &[u8], at: usize) -> Result<(i64, usize), u32> {
+pub fn se(bytes: &[u8], at: usize) -> Field {
     document::read(bytes.len(), at, 0)?;
     let mut r = reader(bytes, at);
-    let v = r.se().map_err(number)?;
-    Ok((v.into(), r.bit_pos()))
+    let v = r.se().map_err(number);
+    let rust = v.map(|v| (v.into(), r.bit_pos()));
+    field(bytes, rust, short::field(bytes, at, |r| r.se()))
 }
 
 pub fn trailing(bytes: &[u8], at: usize) -> Result<usize, u32> {

@@ -15,7 +15,7 @@ pub fn compare() -> Vec<Tally> {
     ]
 }
 
-/// u of each width, ue, se and the trailing bits at one place: the value and the bit after it.
+/// u of each width, ue, se and the trailing bits at one place: the value, the bit after it, and whether bits were lacking.
 fn reads(t: &mut Tally, bytes: &[u8], at: usize) {
     for n in 0..=33 {
         let asked = || format!("u {n} at {at} of {bytes:02X?}");

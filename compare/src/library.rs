@@ -22,6 +22,9 @@ pub mod raw {
 /// What stands in the answer array before each call.
 const MARK: u64 = 0x5A5A_5A5A_5A5A_5A5A;
 
+/// A field's value, the bit after it, and 1 where bits were lacking or 0; or the refusal's number.
+pub type Field = Result<(i64, usize, u64), u32>;
+
 /// A refusal that changed the answer array: a number that is expected nowhere.
 const ARRAY_CHANGED: u32 = 1000;
 
@@ -33,22 +36,22 @@ fn read<const N: usize>(code: u32, answer: [u64; N]) -> Result<[u64; N], u32> {
     }
 }
 
-pub fn u(bytes: &[u8], at: usize, n: u32) -> Result<(i64, usize), u32> {
-    let mut answer = [MARK; 2];
+pub fn u(bytes: &[u8], at: usize, n: u32) -> Field {
+    let mut answer = [MARK; 3];
     let code = unsafe { raw::bitstream_u(bytes.as_ptr(), bytes.len(), at, n, answer.as_mut_ptr()) };
-    read(code, answer).map(|[v, q]| (v as i64, q as usize))
+    read(code, answer).map(|[v, q, lacking]| (v as i64, q as usize, lacking))
 }
 
-pub fn ue(bytes: &[u8], at: usize) -> Result<(i64, usize), u32> {
-    let mut answer = [MARK; 2];
+pub fn ue(bytes: &[u8], at: usize) -> Field {
+    let mut answer = [MARK; 3];
     let code = unsafe { raw::bitstream_ue(bytes.as_ptr(), bytes.len(), at, answer.as_mut_ptr()) };
-    read(code, answer).map(|[v, q]| (v as i64, q as usize))
+    read(code, answer).map(|[v, q, lacking]| (v as i64, q as usize, lacking))
 }
 
-pub fn se(bytes: &[u8], at: usize) -> Result<(i64, usize), u32> {
-    let mut answer = [MARK as i64; 2];
+pub fn se(bytes: &[u8], at: usize) -> Field {
+    let mut answer = [MARK as i64; 3];
     let code = unsafe { raw::bitstream_se(bytes.as_ptr(), bytes.len(), at, answer.as_mut_ptr()) };
-    read(code, answer.map(|x| x as u64)).map(|[v, q]| (v as i64, q as usize))
+    read(code, answer.map(|x| x as u64)).map(|[v, q, lacking]| (v as i64, q as usize, lacking))
 }
 
 pub fn trailing(bytes: &[u8], at: usize) -> Result<usize, u32> {

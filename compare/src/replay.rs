@@ -1,5 +1,5 @@
 //! The sample that the program `replay_sets` reads, a name and an RBSP to a line, some with a change of one number after it, and what the
-//! program must write: the Rust's answers.
+//! program must write.
 
 mod changes;
 
@@ -42,6 +42,7 @@ pub fn print_answers() {
 fn sample() -> Vec<Case> {
     let mut cases = marked();
     cases.extend(endings());
+    cases.extend(short());
     cases.extend(alf_limits());
     cases.extend(lmcs_limits());
     cases.extend(scaling_limits());
@@ -70,7 +71,7 @@ fn marked() -> Vec<Case> {
         case("LMCS, bins 0 to 0", &[0x20, 0x42, 0x12]),
         case("LMCS id 4, one byte", &[0x24]),
         case("scaling, all copied", &[0x40, 0x7F, 0xFF, 0xE8]),
-        case("kind 3", &[0x60]),
+        case("kind 3, one byte", &[0x60]),
         case("kind 4", &[0x80, 0x10]),
         case("kind 7", &[0xFF, 0xFF]),
         case("LMCS min 15, delta max 0", &[0x20, 0x04, 0x32]),
@@ -91,6 +92,23 @@ fn endings() -> Vec<Case> {
         case("scaling, ends in the copy flags", &[0x40, 0x7F]),
         case("scaling, stop bit 0", &[0x40, 0x7F, 0xFF, 0xE0]),
         case("scaling, extension flag", &[0x40, 0x7F, 0xFF, 0xF0]),
+    ]
+}
+
+/// Sets that end too early, and rules that are judged before or after a missing bit.
+fn short() -> Vec<Case> {
+    vec![
+        case("ALF, ends before the extension flag", &[0x00, 0x5F, 0xFF]),
+        case("ALF id 8, ends before the extension flag", &[0x08, 0x5F, 0xFF]),
+        case("ALF id 8, ends where a magnitude begins", &[0x08, 0x54]),
+        case("ALF luma, cut in a magnitude's zeros", &[0x00, 0x50, 0x00]),
+        case("ALF luma count-1 2, cut after an index of 2", &[0x00, 0x4E]),
+        case("ALF luma count-1 2, cut after an index of 3", &[0x00, 0x4F]),
+        case("LMCS, cut in its delta max", &[0x20, 0x42]),
+        case("LMCS min 127, ends after it", &[0x20, 0x00, 0x80]),
+        case("LMCS, 31 zeros up to the end", &[0x20, 0, 0, 0, 0]),
+        case("LMCS min 7, 32 zeros up to the end", &[0x20, 0x08, 0, 0, 0, 0]),
+        case("scaling, cut in the zeros of a step of -128", &[0x40, 0x1F, 0x00]),
     ]
 }
 

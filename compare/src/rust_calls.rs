@@ -1,4 +1,5 @@
-//! The Rust behind the library's call boundary: the same arguments where it can take them, the same answer arrays.
+//! The Rust behind the library's call boundary: the same arguments where it can take them, the same answer arrays, of which it leaves the
+//! number that tells of lacking bits.
 
 use crate::bit_reader::BitReader;
 use crate::bit_writer::BitWriter;

@@ -2,10 +2,12 @@
 
 use super::list;
 use crate::expected;
+use crate::library::Field;
 
-fn field(call: &str, bytes: &[u8], at: usize, answer: Result<(i64, usize), u32>) {
+fn field(call: &str, bytes: &[u8], at: usize, answer: Field) {
     let answer = match answer {
-        Ok((v, q)) => format!("{v}, bit {q}"),
+        Ok((v, q, 0)) => format!("{v}, bit {q}"),
+        Ok((v, q, _)) => format!("{v}, bit {q}, lacking"),
         Err(e) => format!("refused {e}"),
     };
     println!("{call} at {at} of{} -> {answer}", list(bytes));

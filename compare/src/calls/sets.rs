@@ -52,7 +52,7 @@ fn read(name: &str, rbsp: &[u8], input: usize) -> Row {
 fn same_read(t: &mut Tally, bytes: &[u8]) {
     let asked = || format!("read of {bytes:02X?}");
     let ours = sets::read(bytes);
-    let rust = parse_aps_rbsp(bytes).map_err(number);
+    let rust = expected::sets::read_rbsp(bytes);
     let end = ours.as_ref().ok().map(|(_, end)| *end);
     let expected = rust.as_ref().ok().map(expected::sets::end);
     record::same(t, asked, ours.map(|(set, _)| set), rust.as_ref().map_err(|&e| e));

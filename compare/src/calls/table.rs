@@ -92,8 +92,9 @@ impl Both {
         )
     }
 
-    /// The times of a stream that is taken again and again.
+    /// The times of a stream of whole sets that is taken again and again.
     fn row(mut self, t: Tally, stream: &[u8]) -> Row {
+        self.model.looking = false;
         let (mut work, mut again) = (self.filler.clone(), self.filler.clone());
         Row::new(
             t,

@@ -1,6 +1,6 @@
 //! Sets: what the Rust reads, as the numbers that cross the library's call boundary.
 
-use super::{document, number};
+use super::{document, is_short, number, short};
 use crate::h266::aps::{self, VvcAlfCcFilters, VvcAlfData, VvcAps, VvcApsPayload, VvcLmcsData, VvcScalingListData};
 use crate::h266::{self, NAL_TYPE_PREFIX_APS, NAL_TYPE_SUFFIX_APS};
 use crate::library::sets::{Answer, Numbers};
@@ -105,31 +105,51 @@ fn answer(read: Result<VvcAps, u32>) -> Answer {
     Ok((numbers(&set), end(&set)))
 }
 
-pub fn parse_rbsp(bytes: &[u8]) -> Answer {
+/// 1 where a bit is missing, else what the Rust read.
+fn whole(rbsp: &[u8], rust: Result<VvcAps, u32>) -> Result<VvcAps, u32> {
+    let ended = rust.as_ref().map(end).map_err(|&e| e);
+    if is_short(short::rbsp(rbsp), ended, rbsp) {
+        return Err(1);
+    }
+    rust
+}
+
+pub fn read_rbsp(bytes: &[u8]) -> Result<VvcAps, u32> {
     document::escape(bytes.len())?;
-    answer(aps::parse_aps_rbsp(bytes).map_err(number))
+    whole(bytes, aps::parse_aps_rbsp(bytes).map_err(number))
+}
+
+pub fn parse_rbsp(bytes: &[u8]) -> Answer {
+    answer(read_rbsp(bytes))
 }
 
 pub fn is_aps(unit_type: u8) -> bool {
     unit_type == NAL_TYPE_PREFIX_APS || unit_type == NAL_TYPE_SUFFIX_APS
 }
 
-/// The set of a unit. The refusals 4 and 5 and the work buffer are the document's, since the Rust makes its own buffer.
-pub fn read_unit(unit: &[u8], work: &mut [u8]) -> Result<VvcAps, u32> {
+/// The set of a unit. The refusals 4 and 5 and the work buffer are the document's, since the Rust makes its own buffer. Without
+/// `looking` missing bits are not looked for: the Rust alone.
+pub fn read_unit(unit: &[u8], work: &mut [u8], looking: bool) -> Result<VvcAps, u32> {
     document::escape(unit.len())?;
     let header = h266::parse_nal_header(unit).map_err(number)?;
-    if is_aps(header.nal_unit_type) {
-        document::room(unit.len() - 2, work.len())?;
-        let rbsp = nal::ebsp_to_rbsp(&unit[2..]);
-        work[..rbsp.len()].copy_from_slice(&rbsp);
+    let rust = || aps::parse_aps(unit).map_err(number);
+    if !is_aps(header.nal_unit_type) {
+        return rust();
     }
-    aps::parse_aps(unit).map_err(number)
+    document::room(unit.len() - 2, work.len())?;
+    let rbsp = nal::ebsp_to_rbsp(&unit[2..]);
+    work[..rbsp.len()].copy_from_slice(&rbsp);
+    if looking {
+        whole(&rbsp, rust())
+    } else {
+        rust()
+    }
 }
 
 /// The answer, and the work buffer after it.
 pub fn parse(unit: &[u8], work: &[u8]) -> (Answer, Vec<u8>) {
     let mut after = work.to_vec();
-    let read = read_unit(unit, &mut after);
+    let read = read_unit(unit, &mut after, true);
     (answer(read), after)
 }
 

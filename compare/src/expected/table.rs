@@ -48,24 +48,31 @@ fn is_passed_over(unit: &[u8]) -> bool {
     h266::parse_nal_header(unit).is_ok_and(|header| !sets::is_aps(header.nal_unit_type))
 }
 
-/// The 20 places, in the order of their names.
 #[derive(Clone, PartialEq)]
-pub struct Table([Option<VvcAps>; 20]);
+pub struct Table {
+    /// In the order of their names.
+    places: [Option<VvcAps>; 20],
+    /// Whether missing bits are looked for, which takes time that is not the Rust's.
+    pub looking: bool,
+}
 
 impl Table {
     pub fn new() -> Self {
-        Table([const { None }; 20])
+        Table {
+            places: [const { None }; 20],
+            looking: true,
+        }
     }
 
-    /// 4; 1; passed over; 5; then as `parse_aps`.
+    /// 4; 1; passed over; 5; then as `parse_aps`, but 1 where a bit is missing.
     pub fn take_unit(&mut self, unit: &[u8], work: &mut [u8]) -> Result<Taken, u32> {
         document::escape(unit.len())?;
         if is_passed_over(unit) {
             return Ok(Taken::PassedOver);
         }
-        let set = sets::read_unit(unit, work)?;
+        let set = sets::read_unit(unit, work, self.looking)?;
         let place = place(set.aps_params_type, set.aps_adaptation_parameter_set_id);
-        self.0[place.expect("a set that was read has a place")] = Some(set);
+        self.places[place.expect("a set that was read has a place")] = Some(set);
         Ok(Taken::Accepted)
     }
 
@@ -93,13 +100,13 @@ impl Table {
     /// The record that a lookup shows.
     pub fn held(&self, kind: u8, id: u8) -> Result<&VvcAps, u32> {
         let place = place(kind, id).ok_or(2u32)?;
-        self.0[place].as_ref().ok_or(6)
+        self.places[place].as_ref().ok_or(6)
     }
 
     /// The list at a cut. 3; 2.
     pub fn list(&self) -> Result<Vec<u8>, u32> {
         let unit = |set| aps::write_aps_nal(set, NAL_TYPE_PREFIX_APS).map_err(number);
-        let units: Vec<Result<Vec<u8>, u32>> = self.0.iter().flatten().map(unit).collect();
+        let units: Vec<Result<Vec<u8>, u32>> = self.places.iter().flatten().map(unit).collect();
         for refusal in [3, 2] {
             if units.contains(&Err(refusal)) {
                 return Err(refusal);

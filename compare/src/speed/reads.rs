@@ -11,15 +11,15 @@ use crate::rust_calls;
 /// The bits that the Rust's reader has taken where it refuses a ue.
 const REFUSED_BITS: u64 = 32;
 
-/// One call: the bytes, the bit, and the value with the bit after it.
-fn walk(inputs: &[Vec<u8>], call: impl Fn(&[u8], usize, &mut [u64; 2]) -> u32) -> Run {
+/// One call: the bytes, the bit, and the value with the bit after it and whether bits were lacking.
+fn walk(inputs: &[Vec<u8>], call: impl Fn(&[u8], usize, &mut [u64; 3]) -> u32) -> Run {
     let (mut calls, mut sum) = (0, 0u64);
     let began = Instant::now();
     for bytes in inputs {
-        let mut answer = [0; 2];
+        let mut answer = [0; 3];
         while (answer[1] as usize) < bytes.len() * 8 && calls < CALLS {
             if call(bytes, answer[1] as usize, &mut answer) != 0 {
-                answer = [0, answer[1] + REFUSED_BITS];
+                answer = [0, answer[1] + REFUSED_BITS, 0];
             }
             sum = sum.wrapping_add(answer[0]);
             calls += 1;

@@ -18,8 +18,8 @@ pub struct Bytes {
     extensions: bool,
 }
 
-/// RBSPs that document 01 names, and one of no kind.
-const MARKED: [&[u8]; 14] = [
+/// RBSPs that document 01 names, two that end where a ue begins, and one of no kind.
+const MARKED: [&[u8]; 16] = [
     &[],
     &[0x00, 0x10],
     &[0x00, 0x82],
@@ -27,7 +27,9 @@ const MARKED: [&[u8]; 14] = [
     &[0x00, 0x10, 0xFF],
     &[0x00, 0x00],
     &[0x08],
+    &[0x08, 0x54],
     &[0x20],
+    &[0x20, 0x00, 0x80],
     &[0x20, 0x42, 0x12],
     &[0x20, 0x04, 0x32],
     &[0x24],
