@@ -53,6 +53,7 @@ pub holds-inside : (s : List ℕ) (p : ℕ) (bs : List ℕ) → Holds s p bs →
 holds-inside s p [] h l = omega arith
 holds-inside s p (b ∷ bs) h l = holds-end s p b bs h
 
+-- what is read from there on ends inside it
 pub inside : {A : Type 0} {c : Codec A} {m : ℕ} → Lawful c m → (s : List ℕ) (p : ℕ) (a : A) (q : ℕ) → c .read s p ≡ value a q → p ≤ length s * 8 → q ≤ length s * 8
 inside {c = c} C s p a q e l =
     let (h, n) = C .exact s p a q e in
@@ -81,11 +82,6 @@ module _ {A B : Type 0} where
     pub ▷-halves : (x : A × B) (q : ℕ) → (c ▷ k) .read s p ≡ value x q → (r : ℕ) × (c .read s p ≡ value (x .0) r) × ((k (x .0)) .read s r ≡ value (x .1) q)
     unfolding _▷_
     ▷-halves x q e = both-value (c .read s p) (λ a q. (k a) .read s q) x q e
-
-    -- one read after the other is both read
-    pub ▷-joined : (a : A) (r : ℕ) (b : B) (q : ℕ) → c .read s p ≡ value a r → (k a) .read s r ≡ value b q → (c ▷ k) .read s p ≡ value (a, b) q
-    unfolding _▷_
-    ▷-joined a r b q e f = rw (e, f)
 
   -- one after the other: the bits add up
   pub ▷-law : {c : Codec A} {k : A → Codec B} {m m′ : ℕ} → Lawful c m → ((a : A) → c .ok a ≡ true → Lawful (k a) m′) → Lawful (c ▷ k) (m + m′)

@@ -1,6 +1,6 @@
 -- u(n) and ue(v) are lawful: a field that is read has all its bits in the input.
-use mathlib.Core.Path.{_≡_, refl, sym, ap, _∙_}
-use mathlib.Core.Bool.{Bool, true, false, cond, _&&_}
+use mathlib.Core.Path.{_≡_, refl, sym}
+use mathlib.Core.Bool.{Bool, true, false, _&&_}
 use mathlib.Core.List.{List, [], _∷_}
 use Prim.Native.Nat.{ℕ, zero, suc, _+_, _*_, _^_, _≤_, _<_}
 use native.Mathlib.Nat.{mod-eq-of-lt}
@@ -8,14 +8,14 @@ use native.Mathlib.Omega.{arith}
 use lib.Dec.{ltb}
 use lib.ListN.{length}
 use borrow.Author.Tests.{ltb-true, ltb-false, lt-ltb, le-ltb}
-use Rattle.bitstream.specs.Outcome.{Outcome, value, refused, _then_}
+use Rattle.bitstream.specs.Outcome.{Outcome, value, refused}
 use Rattle.bitstream.specs.Bits.{fieldAt, fieldBits, Holds}
 use Rattle.bitstream.specs.Fields.{readU, lacks, readUe, zerosAt, suffixAt, ueAsked, ueBits}
 use Rattle.bitstream.proofs.FieldLaws.{field-lt}
-use Rattle.bitstream.proofs.CodeLaws.{value-refused, zeros-are, ue-value, ue-max, Code, ue-code}
+use Rattle.bitstream.proofs.CodeLaws.{value-refused, zeros-are, ue-value, ue-max, ue-code}
 use Rattle.bitstream.proofs.WriteLaws.{length-field, length-ue, length-ue-most}
-use Rattle.bitstream.proofs.HoldLaws.{bits-field, bits-ue, holds-end, field-holds}
-use Rattle.bitstream.proofs.RoundTrip.{u-holds, ue-holds, ue-exact}
+use Rattle.bitstream.proofs.HoldLaws.{bits-field, bits-ue, holds-end}
+use Rattle.bitstream.proofs.RoundTrip.{u-holds, u-exact, ue-holds, ue-exact}
 use Rattle.aps.specs.Codec.{whole, u, ue}
 use Rattle.aps.proofs.Lawful.{Lawful}
 
@@ -55,7 +55,7 @@ module _ (s : List ℕ) (p : ℕ) where
 u-stands : (s : List ℕ) (p n : ℕ) → lacks s p n ≡ false → Holds s p (fieldBits (fieldAt s p n) n)
 unfolding Holds fieldBits
 u-stands s p zero e = tt
-u-stands s p (suc n) e = field-holds s p (suc n) (fieldAt s p (suc n)) (lacks-none s p (suc n) (omega arith) e) (mod-eq-of-lt (field-lt s p (suc n)))
+u-stands s p (suc n) e = u-exact s p (suc n) (lacks-none s p (suc n) (omega arith) e)
 
 pub u-law : (n : ℕ) → Lawful (u n) n
 unfolding u whole readU
