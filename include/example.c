@@ -75,6 +75,7 @@ static void refused(void)
     check("no bytes", aps_take_stream(table, NULL, 0, NULL, 0, counts), 0);
     check("no unit", aps_take_unit(table, NULL, 0, NULL, 0), APS_UNEXPECTED_END);
     check("no RBSP", aps_parse_rbsp(NULL, 0, set, end), APS_UNEXPECTED_END);
+    check("a set that is cut off", aps_parse_rbsp((const uint8_t[]){0x24}, 1, set, end), APS_UNEXPECTED_END);
     check("no numbers", aps_write(NULL, 0, out, sizeof out, len), APS_INVALID_DATA);
     check("too few numbers", aps_write(set, APS_NUMBERS - 1, out, sizeof out, len), APS_INVALID_DATA);
     check("no output", aps_write_nal(set, APS_NUMBERS, 17, NULL, 0, len), APS_OUTPUT_TOO_SHORT);

@@ -16,7 +16,7 @@ extern "C" {
 
 /* Refusals. */
 enum {
-    APS_UNEXPECTED_END = 1,   /* a unit under 2 bytes; no bit left for the stop bit */
+    APS_UNEXPECTED_END = 1,   /* a unit under 2 bytes; an RBSP that ends before its set does: cut off */
     APS_INVALID_DATA = 2,     /* a wrong type, id, range, stop bit, padding or stream split; no set's numbers; no place */
     APS_UNSUPPORTED = 3,      /* a kind 3 to 7; extension flag 1 to write */
     APS_INPUT_TOO_LONG = 4,   /* an input over 65,536 bytes */

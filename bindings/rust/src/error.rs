@@ -6,7 +6,7 @@ use std::fmt;
 #[derive(Debug, Clone, Copy, PartialEq, Eq, Hash)]
 #[repr(u32)]
 pub enum Refusal {
-    /// No bit is left for the stop bit, or a unit is under 2 bytes.
+    /// A unit under 2 bytes, or an RBSP that ends before its set does: cut off.
     UnexpectedEnd = 1,
     /// A wrong unit type, id, range, stop bit, padding, stream split or value, or a kind and id that name no place.
     InvalidData = 2,
@@ -43,7 +43,7 @@ impl Refusal {
 impl fmt::Display for Refusal {
     fn fmt(&self, f: &mut fmt::Formatter<'_>) -> fmt::Result {
         f.write_str(match self {
-            Refusal::UnexpectedEnd => "the bytes end before the stop bit or inside the header",
+            Refusal::UnexpectedEnd => "the bytes end inside the header or before the set does",
             Refusal::InvalidData => "a unit type, id, value, stop bit, padding, stream split or place is wrong",
             Refusal::Unsupported => "the kind has no syntax yet, or the set to write has extension flag 1",
             Refusal::InputTooLong => "the input is over 65,536 bytes",

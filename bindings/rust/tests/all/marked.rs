@@ -1,4 +1,4 @@
-//! Document 01's marked bytes.
+//! Document 01's marked bytes, and RBSPs that end too early.
 
 use crate::bytes::{example, example_list, hex};
 use kendwyra::escapes::{ebsp_to_rbsp, rbsp_to_ebsp};
@@ -47,8 +47,8 @@ fn sets() {
 
 #[test]
 fn refused() {
-    let rows = [("", 1), ("00 00", 2), ("08", 2), ("20", 1), ("24", 2), ("60", 3)];
-    for (rbsp, number) in rows {
+    let cut_off = ["", "08", "20", "24", "60", "08 54", "20 00 80"].map(|rbsp| (rbsp, 1));
+    for (rbsp, number) in cut_off.into_iter().chain([("00 00", 2), ("24 00", 2), ("60 00", 3)]) {
         assert_eq!(read(&hex(rbsp)).map_err(Refusal::number), Err(number), "{rbsp}");
     }
     assert_eq!(rewrite(&hex("00 20"), &mut [0; 8]), Err(Refusal::Unsupported));

@@ -1,6 +1,7 @@
 //! Each refusal by its number.
 
 use crate::bytes::hex;
+use crate::made;
 use kendwyra::escapes::{ebsp_to_rbsp, rbsp_to_ebsp};
 use kendwyra::sets::{nal_header, rbsp_end, read, read_unit, rewrite, unit_end, write};
 use kendwyra::{Aps, Refusal, Table, LONGEST_INPUT};
@@ -21,8 +22,8 @@ fn numbers_and_words() {
 #[test]
 fn each_number() {
     assert_eq!(read(&[]).map_err(Refusal::number), Err(1));
-    assert_eq!(read(&hex("24")).map_err(Refusal::number), Err(2));
-    assert_eq!(read(&hex("60")).map_err(Refusal::number), Err(3));
+    assert_eq!(read(&hex("24 00")).map_err(Refusal::number), Err(2));
+    assert_eq!(read(&hex("60 00")).map_err(Refusal::number), Err(3));
     assert_eq!(read(&[0; LONGEST_INPUT + 1]).map_err(Refusal::number), Err(4));
     assert_eq!(write(&Aps::default(), &mut [0]).map_err(Refusal::number), Err(5));
     assert_eq!(Table::new().lookup(0, 0).map_err(Refusal::number), Err(6));
@@ -31,7 +32,15 @@ fn each_number() {
 #[test]
 fn units() {
     let mut work = [0; 8];
-    for (unit, number) in [("00", 1), ("00 81", 2), ("00 89", 1), ("00 89 24", 2), ("00 89 60", 3)] {
+    let rows = [
+        ("00", 1),
+        ("00 81", 2),
+        ("00 89", 1),
+        ("00 89 24", 1),
+        ("00 89 24 00", 2),
+        ("00 89 60 00", 3),
+    ];
+    for (unit, number) in rows {
         assert_eq!(
             read_unit(&hex(unit), &mut work).map_err(Refusal::number),
             Err(number),
@@ -42,6 +51,18 @@ fn units() {
             Err(number),
             "{unit}"
         );
+    }
+}
+
+/// After any of its bytes but the last.
+#[test]
+fn cut_off() {
+    for set in [made::alf(0), made::lmcs(0), made::scaling(0)] {
+        let mut out = [0; 4_000];
+        let len = write(&set, &mut out).unwrap();
+        for cut in 0..len {
+            assert_eq!(read(&out[..cut]), Err(Refusal::UnexpectedEnd), "{cut} of {len} bytes");
+        }
     }
 }
 

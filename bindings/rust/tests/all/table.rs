@@ -57,9 +57,14 @@ fn refused_and_passed_over() {
     let mut work = [9; 64];
     assert_eq!(table.take_unit(&hex("00 81 00 10"), &mut work), Ok(Taken::PassedOver));
     assert_eq!(work, [9; 64]);
-    assert_eq!(table.take_unit(&hex("00"), &mut work), Err(Refusal::UnexpectedEnd));
-    assert_eq!(table.take_unit(&hex("00 89 24"), &mut work), Err(Refusal::InvalidData));
-    assert_eq!(table.take_unit(&hex("00 89 60"), &mut work), Err(Refusal::Unsupported));
+    for (unit, refusal) in [
+        ("00", Refusal::UnexpectedEnd),
+        ("00 89 24", Refusal::UnexpectedEnd),
+        ("00 89 24 00", Refusal::InvalidData),
+        ("00 89 60 00", Refusal::Unsupported),
+    ] {
+        assert_eq!(table.take_unit(&hex(unit), &mut work), Err(refusal), "{unit}");
+    }
     assert_eq!(
         table.take_stream(&hex("01 00 00 01 00 89 00 10"), &mut work),
         Err(Refusal::InvalidData)
