@@ -26,7 +26,7 @@ sub-if3 c = search needs
 returns-3 : tie.Need-returns-3
 returns-3 c =
     let k = c .before .before .before .before .skip-zeros .ensures in
-    record { is = next-few _ _ _ k (omega (arith, k .to, c .before .before .before .if1 .left)) (c .before .if2 .left) (c .if3 .taken); after = tt }
+    record { is = next-few _ _ _ k (omega (arith, k .to, c .before .before .before .if1 .left)) (c .before .if2 .left) (omega (arith, c .if3 .taken)); after = tt }
 
 add-start : tie.Need-add-start
 add-start c = search needs
@@ -39,7 +39,7 @@ returns-4 c =
     let k = c .before .before .before .before .before .skip-zeros .ensures in
     let u = c .unit-end .ensures in
     record {
-      is = next-starts _ _ _ k (omega (arith, k .to, c .before .before .before .before .if1 .left)) (c .before .before .if2 .left) (c .before .if3 .left) ∙ u .ends;
+      is = next-starts _ _ _ k (omega (arith, k .to, c .before .before .before .before .if1 .left)) (c .before .before .if2 .left) (omega (arith, c .before .if3 .left)) ∙ u .ends;
       after = (omega (arith, k .from), u .from, u .to);
     }
 

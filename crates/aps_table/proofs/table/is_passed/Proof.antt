@@ -2,6 +2,9 @@
 use borrow.Author.Needs.{needs}
 use mathlib.Core.Path.{ap}
 use mathlib.Core.Bool.{not}
+use native.Mathlib.Omega.{arith}
+use denote.Ref.{now}
+use lib.ListN.{length}
 use borrow.Author.Tests.{lt-leb, le-leb}
 use Rattle.aps_table.specs.Taking.{isPassed}
 use Rattle.aps_table.proofs.table.is_passed.Statement.{statement}
@@ -13,7 +16,7 @@ returns c = rw (lt-leb _ _ (c .if1 .taken))
 
 returns-2 : tie.Need-returns-2
 unfolding isPassed
-returns-2 c = rw (le-leb _ _ (c .before .if1 .left), lt-leb _ _ (c .if2 .taken))
+returns-2 c = rw (le-leb _ _ (c .before .if1 .left), lt-leb 2 (length (now (c .before .before .before .args .unit))) (omega (arith, c .if2 .taken)))
 
 shared-slice-read-is-aps : tie.Need-shared-slice-read-is-aps
 shared-slice-read-is-aps c = search needs
