@@ -141,7 +141,7 @@ fn cut_rbsps() -> Tally {
 }
 
 fn flipped_and_long_rbsps() -> Tally {
-    let mut t = Tally::new("sets with each bit flipped, or 65,530 to 65,540 bytes");
+    let mut t = Tally::new("sets: each bit flipped, and 65,530 to 65,540 bytes");
     let mut random = Random::new(12);
     let mut lent = Lent::new();
     for round in 0..24 {
