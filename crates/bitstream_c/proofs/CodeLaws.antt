@@ -1,9 +1,12 @@
 -- What is returned and left in the lent array, from what an outcome equals.
 use Prim.Native.Nat.{ℕ, _<_}
-use mathlib.Core.Path.{_≡_}
+use mathlib.Core.Path.{_≡_, refl}
+use mathlib.Core.Bool.{Bool, true, false, cond}
 use mathlib.Core.List.{List}
 use lib.IntN.{ℤ, pos}
 use lib.ListN.{set}
+use mir.Syntax.{w64}
+use mir.Val.{boolByte, toZ}
 use Rattle.bitstream.specs.Outcome.{Outcome, value, refused}
 use Rattle.bitstream_c.specs.Codes.{code, answered, answeredSigned, placed, PlaceFits}
 
@@ -36,20 +39,29 @@ module _ {A : Type 0} {o o' : Outcome A} where
   pub placed-on : {after : List ℕ} (before : List ℕ) → after ≡ placed o before → o ≡ o' → after ≡ placed o' before
   placed-on before h e = cc
 
-module _ {o : Outcome ℕ} (l : List ℕ) where
-  pub answered-value : {v p : ℕ} → o ≡ value v p → set (set l 0 v) 1 p ≡ answered o l
-  unfolding answered
-  answered-value h = rw h
+-- a flag as a number
+flag : (b : Bool) → boolByte b ≡ cond b 1 0
+flag true = refl
+flag false = refl
 
-  pub answered-refused : {e : ℕ} → o ≡ refused e → l ≡ answered o l
+flag-signed : (b : Bool) → toZ w64 (boolByte b) ≡ pos (cond b 1 0)
+flag-signed true = refl
+flag-signed false = refl
+
+module _ {o : Outcome ℕ} (b : Bool) (l : List ℕ) where
+  pub answered-value : {v p : ℕ} → o ≡ value v p → set (set (set l 0 v) 1 p) 2 (boolByte b) ≡ answered o b l
+  unfolding answered
+  answered-value h = rw (h, flag b)
+
+  pub answered-refused : {e : ℕ} → o ≡ refused e → l ≡ answered o b l
   unfolding answered
   answered-refused h = rw h
 
-module _ {o : Outcome ℤ} (l : List ℤ) where
-  pub signed-value : {v : ℤ} {p : ℕ} → o ≡ value v p → set (set l 0 v) 1 (pos p) ≡ answeredSigned o l
+module _ {o : Outcome ℤ} (b : Bool) (l : List ℤ) where
+  pub signed-value : {v : ℤ} {p : ℕ} → o ≡ value v p → set (set (set l 0 v) 1 (pos p)) 2 (toZ w64 (boolByte b)) ≡ answeredSigned o b l
   unfolding answeredSigned
-  signed-value h = rw h
+  signed-value h = rw (h, flag-signed b)
 
-  pub signed-refused : {e : ℕ} → o ≡ refused e → l ≡ answeredSigned o l
+  pub signed-refused : {e : ℕ} → o ≡ refused e → l ≡ answeredSigned o b l
   unfolding answeredSigned
   signed-refused h = rw h

@@ -4,42 +4,48 @@ ghost use mathlib.Core.Path.{_≡_};
 ghost use mathlib.Core.List.{List};
 ghost use Prim.Native.Nat.{ℕ};
 ghost use Rattle.bitstream.specs.Outcome.{left};
-ghost use Rattle.bitstream.specs.Reading.{outcomeU, outcomeS, outcomeT, uAt, ueAt, seAt, trailingAt};
+ghost use Rattle.bitstream.specs.Reading.{outcomeU, outcomeS, outcomeT, uAt, uLacking, ueAt, ueLacking, seAt, seLacking, trailingAt};
 ghost use Rattle.bitstream.specs.Writing.{outcomeW, writeBitsAt, writeUeAt, writeSeAt, writeTrailingAt};
 ghost use Rattle.bitstream.specs.Escapes.{outcomeSize, ebspToRbsp, rbspToEbsp};
 ghost use Rattle.bitstream_c.specs.Codes.{code, answered, answeredSigned, placed, PlaceFits};
 use bitstream::bit_reader::BitReader;
 use bitstream::bit_reader::FieldS;
 use bitstream::bit_reader::FieldU;
+use bitstream::bit_reader::ReadS;
+use bitstream::bit_reader::ReadU;
 use bitstream::bit_reader::Trailing;
 use bitstream::bit_writer;
 use bitstream::bit_writer::Written;
 use bitstream::nal;
 use bitstream::nal::Size;
 
-fn unsigned(f: FieldU, answer: &mut [u64; 2]) -> u32
-    ensures code { λ r. ⌜ r ≡ code (outcomeU f) ⌝ }
-    ensures answer { λ _. ⌜ now (answer .exit) ≡ answered (outcomeU f) (now (answer .entry)) ⌝ }
+fn unsigned(read: ReadU, answer: &mut [u64; 3]) -> u32
+    ensures code { λ r. ⌜ r ≡ code (outcomeU (read .field)) ⌝ }
+    ensures answer { λ _. ⌜ now (answer .exit) ≡ answered (outcomeU (read .field)) (read .lacking) (now (answer .entry)) ⌝ }
 {
+    let f = read.field;
     match f {
         FieldU::Value(v, r) => {
             answer[0] = v as u64;
             answer[1] = r.bit_pos as u64;
+            answer[2] = read.lacking as u64;
             0
         }
         FieldU::Refused(e) => number(e),
     }
 }
 
-fn signed(f: FieldS, answer: &mut [i64; 2]) -> u32
-    requires { ⌜ PlaceFits (outcomeS f) ⌝ }
-    ensures code { λ r. ⌜ r ≡ code (outcomeS f) ⌝ }
-    ensures answer { λ _. ⌜ now (answer .exit) ≡ answeredSigned (outcomeS f) (now (answer .entry)) ⌝ }
+fn signed(read: ReadS, answer: &mut [i64; 3]) -> u32
+    requires { ⌜ PlaceFits (outcomeS (read .field)) ⌝ }
+    ensures code { λ r. ⌜ r ≡ code (outcomeS (read .field)) ⌝ }
+    ensures answer { λ _. ⌜ now (answer .exit) ≡ answeredSigned (outcomeS (read .field)) (read .lacking) (now (answer .entry)) ⌝ }
 {
+    let f = read.field;
     match f {
         FieldS::Value(v, r) => {
             answer[0] = v as i64;
             answer[1] = r.bit_pos as i64;
+            answer[2] = read.lacking as i64;
             0
         }
         FieldS::Refused(e) => number(e),
@@ -86,25 +92,25 @@ fn sized(s: Size, answer: &mut [u64; 1]) -> u32
 }
 
 #[no_mangle]
-pub extern "C" fn bitstream_u(bytes: &[u8], at: usize, n: u32, answer: &mut [u64; 2]) -> u32
+pub extern "C" fn bitstream_u(bytes: &[u8], at: usize, n: u32, answer: &mut [u64; 3]) -> u32
     ensures code { λ r. ⌜ r ≡ code (uAt (now (bytes .entry)) at n) ⌝ }
-    ensures answer { λ _. ⌜ now (answer .exit) ≡ answered (uAt (now (bytes .entry)) at n) (now (answer .entry)) ⌝ }
+    ensures answer { λ _. ⌜ now (answer .exit) ≡ answered (uAt (now (bytes .entry)) at n) (uLacking (now (bytes .entry)) at n) (now (answer .entry)) ⌝ }
 {
     unsigned((BitReader { bit_pos: at }).u(bytes, n), answer)
 }
 
 #[no_mangle]
-pub extern "C" fn bitstream_ue(bytes: &[u8], at: usize, answer: &mut [u64; 2]) -> u32
+pub extern "C" fn bitstream_ue(bytes: &[u8], at: usize, answer: &mut [u64; 3]) -> u32
     ensures code { λ r. ⌜ r ≡ code (ueAt (now (bytes .entry)) at) ⌝ }
-    ensures answer { λ _. ⌜ now (answer .exit) ≡ answered (ueAt (now (bytes .entry)) at) (now (answer .entry)) ⌝ }
+    ensures answer { λ _. ⌜ now (answer .exit) ≡ answered (ueAt (now (bytes .entry)) at) (ueLacking (now (bytes .entry)) at) (now (answer .entry)) ⌝ }
 {
     unsigned((BitReader { bit_pos: at }).ue(bytes), answer)
 }
 
 #[no_mangle]
-pub extern "C" fn bitstream_se(bytes: &[u8], at: usize, answer: &mut [i64; 2]) -> u32
+pub extern "C" fn bitstream_se(bytes: &[u8], at: usize, answer: &mut [i64; 3]) -> u32
     ensures code { λ r. ⌜ r ≡ code (seAt (now (bytes .entry)) at) ⌝ }
-    ensures answer { λ _. ⌜ now (answer .exit) ≡ answeredSigned (seAt (now (bytes .entry)) at) (now (answer .entry)) ⌝ }
+    ensures answer { λ _. ⌜ now (answer .exit) ≡ answeredSigned (seAt (now (bytes .entry)) at) (seLacking (now (bytes .entry)) at) (now (answer .entry)) ⌝ }
 {
     signed((BitReader { bit_pos: at }).se(bytes), answer)
 }

@@ -74,6 +74,13 @@ pub fn bit(p: usize) {
     number(p as u64);
 }
 
+// Whether bits were lacking for a field.
+pub fn lacking(lacks: bool) {
+    if lacks {
+        text(b", lacking");
+    }
+}
+
 pub fn end_line() {
     text(b"\n");
 }

@@ -3,6 +3,8 @@ use crate::print;
 use bitstream::bit_reader::BitReader;
 use bitstream::bit_reader::FieldS;
 use bitstream::bit_reader::FieldU;
+use bitstream::bit_reader::ReadS;
+use bitstream::bit_reader::ReadU;
 use bitstream::bit_reader::Trailing;
 
 fn of(at: usize, bytes: &[u8]) {
@@ -13,7 +15,8 @@ fn of(at: usize, bytes: &[u8]) {
     print::text(b" ->");
 }
 
-fn unsigned(f: FieldU) {
+fn unsigned(read: ReadU) {
+    let f = read.field;
     match f {
         FieldU::Value(v, r) => {
             print::text(b" ");
@@ -23,10 +26,12 @@ fn unsigned(f: FieldU) {
         }
         FieldU::Refused(e) => print::refused(e),
     }
+    print::lacking(read.lacking);
     print::end_line();
 }
 
-fn signed(f: FieldS) {
+fn signed(read: ReadS) {
+    let f = read.field;
     match f {
         FieldS::Value(v, r) => {
             print::text(b" ");
@@ -36,6 +41,7 @@ fn signed(f: FieldS) {
         }
         FieldS::Refused(e) => print::refused(e),
     }
+    print::lacking(read.lacking);
     print::end_line();
 }
 

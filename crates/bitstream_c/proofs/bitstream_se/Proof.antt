@@ -8,7 +8,7 @@ se-requires : tie.Need-se-requires
 se-requires c κs = search needs
 
 signed-requires : tie.Need-signed-requires
-signed-requires c κs = rw (c .before .se .ensures) (se-fits _ _)
+signed-requires c κs = rw (c .before .se .ensures .0) (se-fits _ _)
 
 returns : tie.Need-returns
 returns c = (cc, cc)

@@ -27,6 +27,12 @@ cast-answer-2 c = record { sfits = place-fits (c .before .before .before .before
 element-set-from-answer-2 : tie.Need-element-set-from-answer-2
 element-set-from-answer-2 c = search needs
 
+cast-answer-3 : tie.Need-cast-answer-3
+cast-answer-3 c = search needs
+
+element-set-from-answer-3 : tie.Need-element-set-from-answer-3
+element-set-from-answer-3 c = search needs
+
 enum-known-f-2 : tie.Need-enum-known-f-2
 enum-known-f-2 c = search needs
 
@@ -35,15 +41,16 @@ number-requires c κs = search needs
 
 returns : tie.Need-returns
 returns c =
-    let o = ap outcomeS (c .before .before .f .given .1) in
-    let v = wide-is (c .before .before .f .given .0 .0) (record { sfits = c .before .known-told .given .0 .1 }) in
-    let p = toZ-pos w64 (place-fits (c .before .before .before .before .pre) o) in
-    (code-value o, rw (v, p) (signed-value _ o))
+    let k = c .before .before .before in
+    let o = ap outcomeS (k .f .given .1) in
+    let v = wide-is (k .f .given .0 .0) (record { sfits = c .before .before .known-told .given .0 .1 }) in
+    let p = toZ-pos w64 (place-fits (k .before .before .pre) o) in
+    (code-value o, rw (v, p) (signed-value (k .before .before .args .read .lacking) _ o))
 
 returns-2 : tie.Need-returns-2
 returns-2 c =
     let o = ap outcomeS (c .before .before .f2 .given .1) in
-    (c .number .ensures ∙ code-refused o, signed-refused _ o)
+    (c .number .ensures ∙ code-refused o, signed-refused _ _ o)
 
 pub signed-spec : {M : Type 1} → statement M
 signed-spec =
@@ -54,6 +61,8 @@ signed-spec =
     element-set-from-answer
     cast-answer-2
     element-set-from-answer-2
+    cast-answer-3
+    element-set-from-answer-3
     enum-known-f-2
     number-requires
     returns

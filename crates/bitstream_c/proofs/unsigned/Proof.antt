@@ -18,6 +18,12 @@ element-write-answer c = search needs
 element-write-answer-2 : tie.Need-element-write-answer-2
 element-write-answer-2 c = search needs
 
+cast-answer-2 : tie.Need-cast-answer-2
+cast-answer-2 c = search needs
+
+element-write-answer-3 : tie.Need-element-write-answer-3
+element-write-answer-3 c = search needs
+
 enum-known-f-2 : tie.Need-enum-known-f-2
 enum-known-f-2 c = search needs
 
@@ -26,13 +32,13 @@ number-requires c κs = search needs
 
 returns : tie.Need-returns
 returns c =
-    let o = ap outcomeU (c .before .f .given .1) in
-    (code-value o, answered-value _ o)
+    let o = ap outcomeU (c .before .before .f .given .1) in
+    (code-value o, answered-value (c .before .before .before .before .args .read .lacking) _ o)
 
 returns-2 : tie.Need-returns-2
 returns-2 c =
     let o = ap outcomeU (c .before .before .f2 .given .1) in
-    (c .number .ensures ∙ code-refused o, answered-refused _ o)
+    (c .number .ensures ∙ code-refused o, answered-refused _ _ o)
 
 pub unsigned-spec : {M : Type 1} → statement M
 unsigned-spec =
@@ -42,6 +48,8 @@ unsigned-spec =
     cast-answer
     element-write-answer
     element-write-answer-2
+    cast-answer-2
+    element-write-answer-3
     enum-known-f-2
     number-requires
     returns
