@@ -2,7 +2,7 @@
 use mathlib.Core.Path.{_≡_, refl, sym, ap, _∙_}
 use mathlib.Core.Bool.{Bool, true, false, cond, not, _&&_}
 use mathlib.Core.List.{List}
-use Prim.Native.Nat.{ℕ, _+_, _*_, _/_, _^_, _≤_, _<_}
+use Prim.Native.Nat.{ℕ, _+_, _*_, _/_, _≤_, _<_}
 use native.Mathlib.Nat.{mul-comm, div-lt-iff-lt-mul, le-div-iff-mul-le}
 use native.Mathlib.Omega.{arith}
 use borrow.Author.Tests.{ltb-true, ltb-false, leb-true, lt-ltb, le-ltb, le-leb, lt-leb}
@@ -10,11 +10,10 @@ use lib.Dec.{leb, ltb, eqb}
 use lib.ListN.{replicate}
 use Rattle.bitstream.specs.Outcome.{Outcome, value, refused, mapOutcome, _then_}
 use Rattle.bitstream.specs.Bits.{fieldAt}
-use Rattle.bitstream.specs.Fields.{readUe}
+use Rattle.bitstream.specs.Fields.{lacks}
 use Rattle.bitstream.proofs.CodeLaws.{value-refused}
-use Rattle.bitstream.proofs.FieldLaws.{field-lt}
-use Rattle.aps.specs.Codec.{Codec, u, _▷_, via, judged, Inferred, when, each}
-use Rattle.aps.specs.Elements.{flag, ueTo, signed, noNumber, noSigned, apart}
+use Rattle.aps.specs.Codec.{Codec, u, ue, _▷_, via, judged, Inferred, when, each}
+use Rattle.aps.specs.Elements.{flag, ueTo, noFlag, noNumber, noSigned, apart}
 use Rattle.aps.specs.AlfSyntax.{ceilLog2, coefficient, lumaCoefficients, lumaClips}
 use Rattle.aps.specs.AlfSyntax.{ccSyntax, ccCoefficients, toCc, alf, alfSyntax, alfFilters, toAlf}
 use Rattle.aps.specs.declared.alf.VvcAlfLuma.{VvcAlfLuma}
@@ -23,10 +22,11 @@ use Rattle.aps.specs.declared.alf.VvcAlfCcFilters.{VvcAlfCcFilters}
 use Rattle.aps.specs.declared.alf.VvcAlfData.{VvcAlfData}
 use Rattle.aps.specs.AlfSyntax as Alf
 use Rattle.aps.proofs.EachLaws.{each-same}
-use Rattle.aps.proofs.Steps.{u-read, ueTo-read, flag-read, signed-read, judged-read, when-read, Reading, reading-start, Reading2, reading2-start}
+use Rattle.aps.proofs.FieldSteps.{none-lacking, lacks-part, u-here, u-lacking, flag-read, flag-here, flag-lacking, run-lacking, ueTo-read}
+use Rattle.aps.proofs.Steps.{judged-read, when-read, Reading, reading-start, Reading2, reading2-start}
 
 pub ueTo-most : (most : ℕ) (s : List ℕ) (p v q : ℕ) → value v q ≡ (ueTo most) .read s p → v ≤ most
-ueTo-most most s p v q e = first (readUe s p) (e ∙ ueTo-read most s p)
+ueTo-most most s p v q e = first (ue .read s p) (e ∙ ueTo-read most s p)
   where
     second : (w r : ℕ) (b : Bool) → leb w most ≡ b → value v q ≡ cond b (value w r) (refused 2) → v ≤ most
     second w r true h e = let same : v ≡ w = cc in rw same (leb-true w most h)
@@ -74,40 +74,39 @@ reading2-from k N v w s p a b e f = rw (e, f) (reading2-start k N v w s p)
 abbrev pub index : ℕ → Codec ℕ
 index count-1 = when (ltb 0 count-1) noNumber (judged (λ x. leb x count-1) (u (ceilLog2 (count-1 + 1))))
 
-module _ (count-1 : ℕ) (s : List ℕ) (q bits x : ℕ) (width : bits ≡ ceilLog2 (count-1 + 1)) (field : x ≡ fieldAt s q bits) (some : 0 < count-1) where
-  pub index-taken : x ≤ count-1 → (index count-1) .read s q ≡ value x (q + bits)
-  index-taken h = rw (when-read, lt-ltb 0 count-1 some, judged-read, ← width, u-read, ← field, le-leb x count-1 h)
+module _ (count-1 : ℕ) (s : List ℕ) (q bits : ℕ) (width : bits ≡ ceilLog2 (count-1 + 1)) (some : 0 < count-1) where
+  pub index-lacking : lacks s q bits ≡ true → (index count-1) .read s q ≡ refused 1
+  index-lacking l = rw (when-read, lt-ltb 0 count-1 some, judged-read, ← width, u-lacking bits s q l)
 
-  pub index-refused : count-1 < x → (index count-1) .read s q ≡ refused 2
-  index-refused h = rw (when-read, lt-ltb 0 count-1 some, judged-read, ← width, u-read, ← field, lt-leb x count-1 h)
+  module _ (x : ℕ) (there : lacks s q bits ≡ false) (field : x ≡ fieldAt s q bits) where
+    pub index-taken : x ≤ count-1 → (index count-1) .read s q ≡ value x (q + bits)
+    index-taken h = rw (when-read, lt-ltb 0 count-1 some, judged-read, ← width, u-here bits s q there, ← field, le-leb x count-1 h)
 
--- a magnitude u(n) is below 2 ^ n
-pub signed-lt : (n : ℕ) (s : List ℕ) (p m : ℕ) (b : Bool) (q : ℕ) → _≡_ {A = Outcome (ℕ × Bool)} (value (m, b) q) ((signed (u n)) .read s p) → m < 2 ^ n
-signed-lt n s p m b q e = go (cond (not (eqb (fieldAt s p n) 0)) (flag .read s (p + n)) (value false (p + n))) (rw (signed-read, u-read) at e)
-  where
-    go : (o : Outcome Bool) → _≡_ {A = Outcome (ℕ × Bool)} (value (m, b) q) (_then_ o (λ c r. value (fieldAt s p n, c) r)) → m < 2 ^ n
-    go (value c r) e =
-        let same : _≡_ {A = ℕ × Bool} (m, b) (fieldAt s p n, c) = cc in
-        rw (ap {B = ℕ} (λ x. x .0) same) (field-lt s p n)
-    go (refused r) e = absurd (value-refused e)
+    pub index-refused : count-1 < x → (index count-1) .read s q ≡ refused 2
+    index-refused h = rw (when-read, lt-ltb 0 count-1 some, judged-read, ← width, u-here bits s q there, ← field, lt-leb x count-1 h)
 
 -- a flag, a count that is judged, and what they announce
 module _ {A B : Type 0} (to : Bool × (ℕ × A) → B) (from : B → Bool × (ℕ × A)) (test : B → Bool) (d : Inferred (Bool × (ℕ × A))) (most : ℕ) (filters : Bool → ℕ → Codec A) (s : List ℕ) (p : ℕ) where
   abbrev pub headed : Codec B
   headed = via to from test (when true d (flag ▷ λ clip. ueTo most ▷ λ n. filters clip n))
 
-  pub head-value : (clip : Bool) (n q : ℕ) → clip ≡ not (eqb (fieldAt s p 1) 0) → (ueTo most) .read s (p + 1) ≡ value n q
-      → headed .read s p ≡ mapOutcome (λ x. to (clip, (n, x))) ((filters clip n) .read s q)
+  pub head-lacking : lacks s p 1 ≡ true → headed .read s p ≡ refused 1
   unfolding via when _▷_
-  head-value clip n q h e = rw (flag-read s p, ← h, e) (go ((filters clip n) .read s q))
-    where
-      go : (o : Outcome A) → _then_ (_then_ (_then_ o (λ x r. value (n, x) r)) (λ x r. value (clip, x) r)) (λ x r. value (to x) r) ≡ mapOutcome (λ x. to (clip, (n, x))) o
-      go (value x r) = refl
-      go (refused e) = refl
+  head-lacking l = rw (flag-lacking s p l)
 
-  pub head-refused : (e : ℕ) → (ueTo most) .read s (p + 1) ≡ refused e → headed .read s p ≡ refused e
-  unfolding via when _▷_
-  head-refused e h = rw (flag-read s p, h)
+  module _ (there : lacks s p 1 ≡ false) where
+    pub head-value : (clip : Bool) (n q : ℕ) → clip ≡ not (eqb (fieldAt s p 1) 0) → (ueTo most) .read s (p + 1) ≡ value n q
+        → headed .read s p ≡ mapOutcome (λ x. to (clip, (n, x))) ((filters clip n) .read s q)
+    unfolding via when _▷_
+    head-value clip n q h e = rw (flag-here s p there, ← h, e) (go ((filters clip n) .read s q))
+      where
+        go : (o : Outcome A) → _then_ (_then_ (_then_ o (λ x r. value (n, x) r)) (λ x r. value (clip, x) r)) (λ x r. value (to x) r) ≡ mapOutcome (λ x. to (clip, (n, x))) o
+        go (value x r) = refl
+        go (refused e) = refl
+
+    pub head-refused : (e : ℕ) → (ueTo most) .read s (p + 1) ≡ refused e → headed .read s p ≡ refused e
+    unfolding via when _▷_
+    head-refused e h = rw (flag-here s p there, h)
 
 module _ (s : List ℕ) (p : ℕ) where
   pub cc-read : (Alf.cc true) .read s p ≡ _then_ ((ueTo 3) .read s p) (λ n q. mapOutcome (λ x. toCc (n, x)) ((ccCoefficients n) .read s q))
@@ -130,6 +129,24 @@ pub via-absent : {A B : Type 0} (to : A → B) (from : B → A) (test : B → Bo
 unfolding via when
 via-absent to from test d c s p = refl
 
+-- bits are lacking for the four flags, or for the first alone
+module _ (s : List ℕ) (p : ℕ) where
+  flags-lacking : lacks s p 4 ≡ true → (alfSyntax true) .read s p ≡ refused 1
+  unfolding alfSyntax when
+  flags-lacking =
+      run-lacking s p 3 flag _ 1 _ (flag-read s p)
+      (λ a. run-lacking s (p + 1) 2 (when true noFlag flag) _ 1 _ (flag-read s (p + 1))
+      (λ b. run-lacking s (p + 1 + 1) 1 (when true noFlag flag) _ 1 _ (flag-read s (p + 1 + 1))
+      (λ c. run-lacking s (p + 1 + 1 + 1) 0 (when true noFlag flag) _ 1 _ (flag-read s (p + 1 + 1 + 1)) (λ d m. absurd (none-lacking s _ m)))))
+
+  pub alf-lacking : lacks s p 4 ≡ true → (alf true) .read s p ≡ refused 1
+  unfolding alf via
+  alf-lacking l = rw (flags-lacking l)
+
+  pub alf-lacking-luma : lacks s p 1 ≡ true → (alf false) .read s p ≡ refused 1
+  unfolding alf via alfSyntax _▷_
+  alf-lacking-luma l = rw (flag-lacking s p l)
+
 -- the four flags, or the first alone
 module _ (s : List ℕ) (p : ℕ) (lumaSignal : Bool) (is-luma : lumaSignal ≡ not (eqb (fieldAt s p 1) 0)) where
   abbrev announced : Bool → Bool → Bool → ℕ → Outcome VvcAlfData
@@ -142,16 +159,29 @@ module _ (s : List ℕ) (p : ℕ) (lumaSignal : Bool) (is-luma : lumaSignal ≡ 
   flags-then chromaSignal cbSignal crSignal (value x q) = refl
   flags-then chromaSignal cbSignal crSignal (refused e) = refl
 
-  pub alf-without : (alf false) .read s p ≡ announced false false false (p + 1)
+  pub alf-without : lacks s p 1 ≡ false → (alf false) .read s p ≡ announced false false false (p + 1)
   unfolding alf via alfSyntax _▷_ when
-  alf-without = rw (flag-read s p, ← is-luma) (flags-then false false false ((alfFilters lumaSignal false false false) .read s (p + 1)))
+  alf-without l = rw (flag-here s p l, ← is-luma) (flags-then false false false ((alfFilters lumaSignal false false false) .read s (p + 1)))
 
-  pub alf-with : (chromaSignal cbSignal crSignal : Bool) → chromaSignal ≡ not (eqb (fieldAt s (p + 1) 1) 0) → cbSignal ≡ not (eqb (fieldAt s (p + 2) 1) 0)
+  pub alf-with : lacks s p 4 ≡ false → (chromaSignal cbSignal crSignal : Bool) → chromaSignal ≡ not (eqb (fieldAt s (p + 1) 1) 0) → cbSignal ≡ not (eqb (fieldAt s (p + 2) 1) 0)
       → crSignal ≡ not (eqb (fieldAt s (p + 3) 1) 0) → (alf true) .read s p ≡ announced chromaSignal cbSignal crSignal (p + 4)
   unfolding alf via alfSyntax _▷_ when
-  alf-with chromaSignal cbSignal crSignal is-chroma is-cb is-cr =
+  alf-with l chromaSignal cbSignal crSignal is-chroma is-cb is-cr =
+      let there : (q : ℕ) → p ≤ q → q + 1 ≤ p + 4 → lacks s q 1 ≡ false = λ q. lacks-part s p 4 q 1 l in
       let second : p + 1 + 1 ≡ p + 2 = omega arith in
       let third : p + 2 + 1 ≡ p + 3 = omega arith in
       let fourth : p + 3 + 1 ≡ p + 4 = omega arith in
-      rw (flag-read s p, ← is-luma, flag-read s (p + 1), ← is-chroma, second, flag-read s (p + 2), ← is-cb, third, flag-read s (p + 3), ← is-cr, fourth)
+      rw (
+        flag-here s p (there p (omega arith) (omega arith)),
+        ← is-luma,
+        flag-here s (p + 1) (there (p + 1) (omega arith) (omega arith)),
+        ← is-chroma,
+        second,
+        flag-here s (p + 2) (there (p + 2) (omega arith) (omega arith)),
+        ← is-cb,
+        third,
+        flag-here s (p + 3) (there (p + 3) (omega arith) (omega arith)),
+        ← is-cr,
+        fourth,
+      )
       (flags-then chromaSignal cbSignal crSignal ((alfFilters lumaSignal chromaSignal cbSignal crSignal) .read s (p + 4)))

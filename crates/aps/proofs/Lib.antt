@@ -18,6 +18,7 @@ pub mod Bounds
 pub mod Gives
 pub mod RowLaws
 pub mod SignedLaws
+pub mod FieldSteps
 pub mod Steps
 pub mod StopLaws
 pub mod AlfSteps

@@ -7,8 +7,8 @@ use native.Mathlib.Omega.{arith}
 use borrow.Author.Tests.{leb-true}
 use lib.Dec.{leb}
 use Rattle.bitstream.specs.Outcome.{Outcome, value, refused, _then_}
-use Rattle.bitstream.specs.Fields.{readUe}
-use Rattle.aps.proofs.Steps.{when-read, signed-u-lt}
+use Rattle.aps.proofs.FieldSteps.{signed-u-lt}
+use Rattle.aps.proofs.Steps.{when-read}
 use Rattle.aps.specs.Codec.{Codec, u, ue, _▷_, via, judged, when}
 use Rattle.aps.specs.Elements.{noSigned, signed}
 use Rattle.aps.specs.Inner.{lmcsRest}
@@ -17,27 +17,27 @@ use Rattle.aps.specs.LmcsSyntax.{LmcsHead, inRange, codedFrom, lmcsHead,
 -- ---- the head
 
 module _ (s : List ℕ) (p n : ℕ) where
-  pub min-refused : readUe s p ≡ refused n → lmcsHead .read s p ≡ refused n
-  unfolding judged _▷_ ue
+  pub min-refused : ue .read s p ≡ refused n → lmcsHead .read s p ≡ refused n
+  unfolding judged _▷_
   min-refused e = rw e
 
-  module _ (min q : ℕ) (e : readUe s p ≡ value min q) where
-    pub max-refused : readUe s q ≡ refused n → lmcsHead .read s p ≡ refused n
-    unfolding judged _▷_ ue
+  module _ (min q : ℕ) (e : ue .read s p ≡ value min q) where
+    pub max-refused : ue .read s q ≡ refused n → lmcsHead .read s p ≡ refused n
+    unfolding judged _▷_
     max-refused f = rw (e, f)
 
-    module _ (max r : ℕ) (f : readUe s q ≡ value max r) where
-      pub prec-refused : readUe s r ≡ refused n → lmcsHead .read s p ≡ refused n
-      unfolding judged _▷_ ue
+    module _ (max r : ℕ) (f : ue .read s q ≡ value max r) where
+      pub prec-refused : ue .read s r ≡ refused n → lmcsHead .read s p ≡ refused n
+      unfolding judged _▷_
       prec-refused g = rw (e, f, g)
 
-      module _ (prec t : ℕ) (g : readUe s r ≡ value prec t) where
+      module _ (prec t : ℕ) (g : ue .read s r ≡ value prec t) where
         pub range-refused : inRange (min, (max, prec)) ≡ false → lmcsHead .read s p ≡ refused 2
-        unfolding judged _▷_ ue
+        unfolding judged _▷_
         range-refused h = rw (e, f, g, h)
 
         pub head-read : inRange (min, (max, prec)) ≡ true → lmcsHead .read s p ≡ value (min, (max, prec)) t
-        unfolding judged _▷_ ue
+        unfolding judged _▷_
         head-read h = rw (e, f, g, h)
 
 -- what the judgement says

@@ -13,8 +13,7 @@ use lib.Signed.{leZ, ltZ}
 use lib.ListN.{length, set}
 use lib.Seq.{sets}
 use Rattle.bitstream.specs.Outcome.{Outcome, value, refused, mapOutcome, _then_}
-use Rattle.bitstream.specs.Fields.{readUe, readSe, seValue}
-use Rattle.aps.specs.Codec.{Codec, ue, _▷_, via, judged, when, eachFrom}
+use Rattle.aps.specs.Codec.{Codec, _▷_, via, judged, when, eachFrom}
 use Rattle.aps.specs.Elements.{flag, se, seIn, noFlag, noPair}
 use Rattle.aps.specs.Inner.{storedList, stored, outcomeStop}
 use Rattle.aps.specs.ScalingSyntax.{skipped, entries, idCoded, just, step, stepAt, sums, cons, Entry, coefficients, dcAt, deltaAt, noEntries, noEntry, entrySyntax, idAt}
@@ -30,26 +29,18 @@ position id i h = ap (skipped id) (omega arith)
 
 -- ---- se(v) in a range
 
-se-read : (s : List ℕ) (p : ℕ) → se .read s p ≡ readSe s p
-unfolding se via ue readSe
-se-read s p = go (readUe s p)
-  where
-    go : (o : Outcome ℕ) → _then_ o (λ a q. value (seValue a) q) ≡ mapOutcome seValue o
-    go (value a q) = refl
-    go (refused e) = refl
-
-pub seIn-read : (low high : ℤ) (s : List ℕ) (p : ℕ) → (seIn low high) .read s p ≡ _then_ (readSe s p) (λ z q. cond (leZ low z && leZ z high) (value z q) (refused 2))
+pub seIn-read : (low high : ℤ) (s : List ℕ) (p : ℕ) → (seIn low high) .read s p ≡ _then_ (se .read s p) (λ z q. cond (leZ low z && leZ z high) (value z q) (refused 2))
 unfolding seIn judged
-seIn-read low high s p = rw (se-read s p)
+seIn-read low high s p = refl
 
 abbrev pub se8 : Codec ℤ
 se8 = seIn (negsuc 127) (pos 127)
 
 module _ (s : List ℕ) (p : ℕ) where
-  pub se8-refused : {n : ℕ} → readSe s p ≡ refused n → se8 .read s p ≡ refused n
+  pub se8-refused : {n : ℕ} → se .read s p ≡ refused n → se8 .read s p ≡ refused n
   se8-refused e = rw (seIn-read (negsuc 127) (pos 127) s p, e)
 
-  module _ {z : ℤ} {q : ℕ} (e : readSe s p ≡ value z q) where
+  module _ {z : ℤ} {q : ℕ} (e : se .read s p ≡ value z q) where
     pub se8-low : ltZ z (negsuc 127) ≡ true → se8 .read s p ≡ refused 2
     se8-low a = rw (seIn-read (negsuc 127) (pos 127) s p, e, not-ltZ (negsuc 127) z, a)
 
@@ -69,7 +60,7 @@ small (pos n) a b = omega (arith, leb-true n 127 b)
 small (negsuc n) a b = omega (arith, leb-true n 127 a)
 
 pub se8-small : (s : List ℕ) (p : ℕ) → Gives Small (se8 .read s p)
-se8-small s p = rw (seIn-read (negsuc 127) (pos 127) s p) (first (readSe s p))
+se8-small s p = rw (seIn-read (negsuc 127) (pos 127) s p) (first (se .read s p))
   where
     judge : (z : ℤ) (q : ℕ) (a b : Bool) → leZ (negsuc 127) z ≡ a → leZ z (pos 127) ≡ b → Gives Small (cond (a && b) (value z q) (refused 2))
     judge z q true true e f = small z e f
@@ -218,6 +209,10 @@ module _ (id : ℕ) (s : List ℕ) (p : ℕ) where
 
 -- ---- one id
 
+pub entry-lacking : (id : ℕ) (s : List ℕ) (p : ℕ) {n : ℕ} → flag .read s p ≡ refused n → (entrySyntax id) .read s p ≡ refused n
+unfolding entrySyntax _▷_
+entry-lacking id s p e = rw e
+
 module _ (id : ℕ) (s : List ℕ) (p q : ℕ) where
   module _ (e : flag .read s p ≡ value true q) where
     pub copy-refused : {n : ℕ} → (deltaAt id true) .read s q ≡ refused n → (entrySyntax id) .read s p ≡ refused n
@@ -227,6 +222,10 @@ module _ (id : ℕ) (s : List ℕ) (p q : ℕ) where
     pub copy-value : {delta r : ℕ} → (deltaAt id true) .read s q ≡ value delta r → (entrySyntax id) .read s p ≡ value (true, (false, (delta, (pos 0, [])))) r
     unfolding entrySyntax _▷_ when
     copy-value f = rw (e, f)
+
+  pub pred-lacking : {n : ℕ} → flag .read s p ≡ value false q → flag .read s q ≡ refused n → (entrySyntax id) .read s p ≡ refused n
+  unfolding entrySyntax _▷_ when
+  pred-lacking e f = rw (e, f)
 
   module _ (e : flag .read s p ≡ value false q) {pred : Bool} {r : ℕ} (f : flag .read s q ≡ value pred r) where
     pub delta-refused : {n : ℕ} → (deltaAt id pred) .read s r ≡ refused n → (entrySyntax id) .read s p ≡ refused n

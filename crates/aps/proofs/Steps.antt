@@ -1,50 +1,17 @@
 -- What a function's proof rewrites with: one step of each piece, by refl, and the steps of a loop that reads or writes an array.
 use mathlib.Core.Path.{_≡_, refl, sym, ap, _∙_}
-use mathlib.Core.Bool.{Bool, true, false, cond, not, _&&_, and-assoc}
+use mathlib.Core.Bool.{Bool, true, false, cond, _&&_, and-assoc}
 use mathlib.Core.List.{List, [], _∷_, _++_, append-assoc, append-nil}
-use Prim.Native.Nat.{ℕ, zero, suc, _+_, _-_, _^_, _≤_, _<_}
+use Prim.Native.Nat.{ℕ, zero, suc, _+_, _-_, _≤_, _<_}
 use native.Mathlib.Nat.{add-zero, suc-add, zero-add, sub-zero}
 use native.Mathlib.Numerals.{add-one}
 use native.Mathlib.Omega.{arith}
 use lib.ListN.{length, getD, take, drop, set, replicate, length-set, length-replicate, take-append-drop}
 use lib.Seq.{take-suc, take-suc-set, drop-set-lt, drop-drop, length-take-le, take-at, drop-at}
 use Rattle.bitstream.specs.Outcome.{Outcome, value, refused, _then_}
-use Rattle.bitstream.specs.Bits.{fieldAt}
-use Rattle.bitstream.specs.Fields.{readU, readUe}
-use Rattle.bitstream.proofs.FieldLaws.{field-lt}
-use lib.Dec.{eqb, leb}
-use Rattle.aps.specs.Elements.{flag, ueTo, signed, firsts, seconds, zipped, apart}
+use Rattle.aps.specs.Elements.{firsts, seconds, zipped, apart}
 use Rattle.aps.proofs.PairLaws.{firsts-zipped, seconds-zipped}
-use Rattle.aps.specs.Codec.{Codec, u, ue, _▷_, via, judged, Inferred, when, eachFrom, each}
-
-pub u-read : (n : ℕ) (s : List ℕ) (p : ℕ) → (u n) .read s p ≡ value (fieldAt s p n) (p + n)
-unfolding u readU
-u-read n s p = refl
-
-pub ueTo-read : (most : ℕ) (s : List ℕ) (p : ℕ) → (ueTo most) .read s p ≡ _then_ (readUe s p) (λ v q. cond (leb v most) (value v q) (refused 2))
-unfolding ueTo judged ue
-ueTo-read most s p = refl
-
-pub flag-read : (s : List ℕ) (p : ℕ) → flag .read s p ≡ value (not (eqb (fieldAt s p 1) 0)) (p + 1)
-unfolding flag via u readU
-flag-read s p = refl
-
-pub signed-read : (c : Codec ℕ) (s : List ℕ) (p : ℕ)
-    → (signed c) .read s p ≡ _then_ (c .read s p) (λ m q. _then_ (cond (not (eqb m 0)) (flag .read s q) (value false q)) (λ b r. value (m, b) r))
-unfolding signed _▷_ when
-signed-read c s p = refl
-
--- the magnitude is of n bits
-pub signed-u-lt : (n : ℕ) (s : List ℕ) (p : ℕ) {m : ℕ} {b : Bool} {q : ℕ} → (signed (u n)) .read s p ≡ value (m, b) q → m < 2 ^ n
-signed-u-lt n s p {m} {b} {q} e = go (not (eqb (fieldAt s p n) 0)) (sym (signed-read (u n) s p ∙ rw (u-read n s p)) ∙ e)
-  where
-    first : (x : Outcome Bool) → _then_ {B = ℕ × Bool} x (λ b r. value (fieldAt s p n, b) r) ≡ value (m, b) q → fieldAt s p n ≡ m
-    first (value d r) e = let w : _≡_ {A = ℕ × Bool} (fieldAt s p n, d) (m, b) = cc in ap (λ (x : ℕ × Bool). x .0) w
-    first (refused k) e = let z : _≡_ {A = ℕ} 0 1 = cc in absurd (omega arith)
-
-    go : (t : Bool) → _then_ {B = ℕ × Bool} (cond t (flag .read s (p + n)) (value false (p + n))) (λ b r. value (fieldAt s p n, b) r) ≡ value (m, b) q → m < 2 ^ n
-    go true e = let f : fieldAt s p n ≡ m = first (flag .read s (p + n)) e in rw (← f) (field-lt s p n)
-    go false e = let f : fieldAt s p n ≡ m = first (value false (p + n)) e in rw (← f) (field-lt s p n)
+use Rattle.aps.specs.Codec.{Codec, via, judged, Inferred, when, eachFrom, each}
 
 module _ {A : Type 0} where
   pub judged-read : (test : A → Bool) (c : Codec A) (s : List ℕ) (p : ℕ)

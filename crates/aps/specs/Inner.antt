@@ -9,14 +9,16 @@ use lib.ListN.{length, take}
 use lib.Seq.{sets}
 use Rattle.bitstream.specs.Outcome.{Outcome, value, refused, number, _then_}
 use Rattle.bitstream.specs.Bits.{fieldAt, putBits}
+use Rattle.bitstream.specs.Fields.{lacks}
 use Rattle.bitstream.specs.declared.Refusal.the-variants.{InvalidData}
 use Rattle.bitstream.specs.declared.nal.Size.{Size}
 use Rattle.bitstream.specs.declared.nal.Size.the-variants as Size
 use Rattle.aps.specs.Codec.{Codec}
+use Rattle.aps.specs.Elements.{flag}
 use Rattle.aps.specs.LmcsSyntax.{LmcsHead, lmcsCodewords, lmcsChroma, toLmcs}
 use Rattle.aps.specs.ScalingSyntax.{Entry}
 use Rattle.aps.specs.ApsSyntax.{zeroAlf, zeroScaling}
-use Rattle.aps.specs.Rbsp.{readRbsp}
+use Rattle.aps.specs.Rbsp.{closed, readRbsp}
 use Rattle.aps.specs.Reading.{outcomeRead, setGiven}
 use Rattle.aps.specs.declared.fields.Stop.{Stop}
 use Rattle.aps.specs.declared.fields.Stop.the-variants as Stop
@@ -64,9 +66,27 @@ outcomeSigned (Signed.Refused e) = refused (number e)
 
 -- what stands before the payload: kind, id and chroma flag
 pub record Headed (s : List ℕ) (kind id : ℕ) (chroma : Bool) : Type 0 where
+  pub there : lacks s 0 9 ≡ false
   pub kind-is : fieldAt s 0 3 ≡ kind
   pub id-is : fieldAt s 3 5 ≡ id
   pub chroma-is : not (eqb (fieldAt s 8 1) 0) ≡ chroma
+
+-- the set with the extension flag read
+unfoldable pub withExtension : VvcAps → Bool → VvcAps
+withExtension a x =
+    record {
+      kind = a .kind;
+      «aps_adaptation_parameter_set_id» = a .«aps_adaptation_parameter_set_id»;
+      «aps_chroma_present_flag» = a .«aps_chroma_present_flag»;
+      «aps_extension_flag» = x;
+      alf = a .alf;
+      lmcs = a .lmcs;
+      scaling = a .scaling;
+    }
+
+-- the extension flag and what closes the RBSP
+unfoldable pub finished : List ℕ → VvcAps → ℕ → Outcome VvcAps
+finished s a q = flag .read s q then λ x r. closed s (withExtension a x) r
 
 -- the answer to s for an LMCS set, but for the arrays that are 0 in it
 abbrev pub AnswersLmcs : LmcsAnswer → List ℕ → Type 0

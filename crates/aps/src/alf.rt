@@ -3,11 +3,14 @@ use crate::alf_chroma::read_cc;
 use crate::alf_chroma::read_chroma;
 use crate::alf_luma::read_luma;
 use crate::fields::Stop;
+use crate::fields::lacks_bits;
 use crate::fields::read_flag;
+use bitstream::Refusal;
 ghost use mathlib.Core.Path.{_≡_};
 ghost use mathlib.Core.Bool.{false};
 ghost use Prim.Native.Nat.{_+_, _≤_};
 ghost use lib.ListN.{length};
+ghost use Rattle.bitstream.specs.declared.Refusal.the-variants.{UnexpectedEnd};
 ghost use Rattle.bitstream.specs.Outcome.{mapOutcome};
 ghost use Rattle.aps.specs.AlfSyntax.{luma, toLuma, noLuma};
 ghost use Rattle.aps.specs.AlfSyntax.{chroma, toChroma, noChroma, cc, toCc, noCc};
@@ -217,18 +220,35 @@ fn read_alf_filters(bytes: &[u8], p: usize, luma: bool, chroma: bool, cb: bool, 
     }
 }
 
+// Bits are lacking for the flags.
+fn no_alf() -> AlfRead
+    ensures { λ r. ⌜ r .stop ≡ Stop.Refused UnexpectedEnd ⌝ }
+{
+    AlfRead {
+        stop: Stop::Refused(Refusal::UnexpectedEnd),
+        alf: zero_alf(),
+    }
+}
+
 // alf_data().
 pub(crate) fn parse_alf_data(bytes: &[u8], p: usize, chroma: bool) -> AlfRead
     requires { ⌜ (length (now bytes) ≤ 65536) × (p ≤ 100) ⌝ }
     ensures { λ r. ⌜ (outcomeStop (r .stop) (r .alf) ≡ (alf chroma) .read (now (bytes .entry)) p)
         × EndsBy (outcomeStop (r .stop) (r .alf)) (p + 30000) ⌝ }
 {
-    let luma = read_flag(bytes, p);
     if chroma {
+        if lacks_bits(bytes, p, 4) {
+            return no_alf();
+        }
+        let luma = read_flag(bytes, p);
         let filters = read_flag(bytes, p + 1);
         let cb = read_flag(bytes, p + 2);
         let cr = read_flag(bytes, p + 3);
         return read_alf_filters(bytes, p + 4, luma, filters, cb, cr);
     }
+    if lacks_bits(bytes, p, 1) {
+        return no_alf();
+    }
+    let luma = read_flag(bytes, p);
     read_alf_filters(bytes, p + 1, luma, false, false, false)
 }

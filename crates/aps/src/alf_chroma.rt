@@ -11,8 +11,10 @@ use crate::alf_fields::read_coefficients;
 use crate::alf_fields::read_ue_to;
 use crate::fields::SignedField;
 use crate::fields::Stop;
+use crate::fields::lacks_bits;
 use crate::fields::read_flag;
 use crate::fields::read_signed;
+use bitstream::Refusal;
 use bitstream::bit_reader::FieldU;
 ghost use mathlib.Core.Path.{_≡_};
 ghost use mathlib.Core.Bool.{true, false};
@@ -111,6 +113,12 @@ pub(crate) fn read_chroma(bytes: &[u8], p: usize) -> ChromaRead
     ensures { λ r. ⌜ (outcomeStop (r .stop) (r .chroma) ≡ (chroma true) .read (now (bytes .entry)) p)
         × EndsBy (outcomeStop (r .stop) (r .chroma)) (p + 3232) ⌝ }
 {
+    if lacks_bits(bytes, p, 1) {
+        return ChromaRead {
+            stop: Stop::Refused(Refusal::UnexpectedEnd),
+            chroma: no_chroma(),
+        };
+    }
     let clip = read_flag(bytes, p);
     let count = read_ue_to(bytes, p + 1, 7);
     match count {

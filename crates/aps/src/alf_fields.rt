@@ -1,6 +1,7 @@
 // The fields that the filters of alf_data() are made of.
 use crate::fields::SignedField;
 use crate::fields::Stop;
+use crate::fields::lacks_bits;
 use crate::fields::read_flag;
 use crate::fields::read_u;
 use crate::fields::read_ue;
@@ -54,8 +55,6 @@ pub(crate) fn read_coefficient(bytes: &[u8], p: usize) -> SignedField
     match magnitude {
         FieldU::Value(abs, r) => {
             let q = r.bit_pos;
-            // Looked at before it is known to be sent: no bit is taken, and no branch has to be foretold.
-            let sign = read_flag(bytes, q);
             if abs == 0 {
                 return SignedField::Value {
                     abs: 0,
@@ -63,9 +62,12 @@ pub(crate) fn read_coefficient(bytes: &[u8], p: usize) -> SignedField
                     next: q,
                 };
             }
+            if lacks_bits(bytes, q, 1) {
+                return SignedField::Refused(Refusal::UnexpectedEnd);
+            }
             SignedField::Value {
                 abs,
-                sign,
+                sign: read_flag(bytes, q),
                 next: q + 1,
             }
         }
@@ -123,6 +125,9 @@ pub(crate) fn read_clips(bytes: &[u8], from: Stop, n: usize, clip: &mut [u8]) ->
         Stop::End(p) => p,
         Stop::Refused(why) => return Stop::Refused(why),
     };
+    if lacks_bits(bytes, p, 2 * n) {
+        return Stop::Refused(Refusal::UnexpectedEnd);
+    }
     let mut i: usize = 0;
     while i < n {
         clip[i] = read_u(bytes, p + 2 * i, 2) as u8;

@@ -8,6 +8,7 @@ use crate::alf_fields::read_clips;
 use crate::alf_fields::read_coefficients;
 use crate::alf_fields::read_ue_to;
 use crate::fields::Stop;
+use crate::fields::lacks_bits;
 use crate::fields::read_flag;
 use crate::fields::read_u;
 use bitstream::Refusal;
@@ -32,6 +33,9 @@ fn read_indexes(bytes: &[u8], p: usize, count_minus1: u32, idx: &mut [u8; 25]) -
     let mut at = p;
     let mut i: usize = 0;
     while i < 25 {
+        if lacks_bits(bytes, at, bits as usize) {
+            return Stop::Refused(Refusal::UnexpectedEnd);
+        }
         let x = read_u(bytes, at, bits);
         if x > count_minus1 {
             return Stop::Refused(Refusal::InvalidData);
@@ -77,6 +81,12 @@ pub(crate) fn read_luma(bytes: &[u8], p: usize) -> LumaRead
     ensures { λ r. ⌜ (outcomeStop (r .stop) (r .luma) ≡ (luma true) .read (now (bytes .entry)) p)
         × EndsBy (outcomeStop (r .stop) (r .luma)) (p + 20664) ⌝ }
 {
+    if lacks_bits(bytes, p, 1) {
+        return LumaRead {
+            stop: Stop::Refused(Refusal::UnexpectedEnd),
+            luma: no_luma(),
+        };
+    }
     let clip = read_flag(bytes, p);
     let count = read_ue_to(bytes, p + 1, 24);
     match count {

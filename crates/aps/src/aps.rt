@@ -3,6 +3,7 @@ use crate::alf::VvcAlfData;
 use crate::alf::parse_alf_data;
 use crate::alf::zero_alf;
 use crate::fields::Stop;
+use crate::fields::lacks_bits;
 use crate::fields::read_flag;
 use crate::fields::read_u;
 use crate::lmcs::VvcLmcsData;
@@ -19,7 +20,7 @@ ghost use mathlib.Core.Path.{_≡_};
 ghost use mathlib.Core.Bool.{false};
 ghost use Prim.Native.Nat.{_-_, _≤_};
 ghost use lib.ListN.{length};
-ghost use Rattle.aps.specs.Inner.{AnswersLmcs, Headed};
+ghost use Rattle.aps.specs.Inner.{AnswersLmcs, Headed, withExtension, finished};
 ghost use Rattle.aps.specs.Rbsp.{closed, readRbsp, parseApsRbsp};
 ghost use Rattle.aps.specs.ApsSyntax.{emptySet, zeroLmcs, numberOf};
 ghost use Rattle.aps.specs.Reading.{outcomeRead, outcomeAps, setGiven};
@@ -136,6 +137,28 @@ fn read_end(bytes: &[u8], p: usize, extension: bool) -> ApsOutcome
     }
 }
 
+// The extension flag, and where the RBSP ends or why there is no set.
+struct Ending {
+    outcome: ApsOutcome,
+    extension: bool,
+}
+
+// What follows the payload.
+fn read_ending(bytes: &[u8], p: usize) -> Ending
+    requires { ⌜ (length (now bytes) ≤ 65536) × (p ≤ 800000) ⌝ }
+    ensures { λ r. ⌜ ((a : VvcAps) → outcomeRead (r .outcome) (withExtension a (r .extension)) ≡ finished (now (bytes .entry)) a p) ⌝ }
+{
+    if lacks_bits(bytes, p, 1) {
+        return Ending {
+            outcome: ApsOutcome::Refused(Refusal::UnexpectedEnd),
+            extension: false,
+        };
+    }
+    let extension = read_flag(bytes, p);
+    let outcome = read_end(bytes, p + 1, extension);
+    Ending { outcome, extension }
+}
+
 // The answer for an LMCS set but for the arrays that are 0 in it; a refusal's set is the empty set.
 struct LmcsAnswer {
     outcome: ApsOutcome,
@@ -173,15 +196,15 @@ fn lmcs_answer(bytes: &[u8], id: u8, chroma: bool) -> LmcsAnswer
     let lmcs = read.lmcs;
     match stop {
         Stop::End(q) => {
-            let extension = read_flag(bytes, q);
-            let end = read_end(bytes, q + 1, extension);
+            let ending = read_ending(bytes, q);
+            let end = ending.outcome;
             match end {
                 ApsOutcome::Read(at) => LmcsAnswer {
                     outcome: ApsOutcome::Read(at),
                     kind: ApsKind::Lmcs,
                     id,
                     chroma,
-                    extension,
+                    extension: ending.extension,
                     lmcs,
                 },
                 ApsOutcome::Refused(why) => refuse_lmcs(why),
@@ -229,8 +252,8 @@ fn alf_set(bytes: &[u8], id: u8, chroma: bool) -> ApsReading
             if Alf::MAX_ID < id {
                 return refuse(Refusal::InvalidData);
             }
-            let extension = read_flag(bytes, q);
-            let end = read_end(bytes, q + 1, extension);
+            let ending = read_ending(bytes, q);
+            let end = ending.outcome;
             match end {
                 ApsOutcome::Read(at) => ApsReading {
                     outcome: ApsOutcome::Read(at),
@@ -238,7 +261,7 @@ fn alf_set(bytes: &[u8], id: u8, chroma: bool) -> ApsReading
                         kind: ApsKind::Alf,
                         aps_adaptation_parameter_set_id: id,
                         aps_chroma_present_flag: chroma,
-                        aps_extension_flag: extension,
+                        aps_extension_flag: ending.extension,
                         alf,
                         lmcs: zero_lmcs(),
                         scaling: zero_scaling(),
@@ -265,8 +288,8 @@ fn scaling_set(bytes: &[u8], id: u8, chroma: bool) -> ApsReading
             if Scaling::MAX_ID < id {
                 return refuse(Refusal::InvalidData);
             }
-            let extension = read_flag(bytes, q);
-            let end = read_end(bytes, q + 1, extension);
+            let ending = read_ending(bytes, q);
+            let end = ending.outcome;
             match end {
                 ApsOutcome::Read(at) => ApsReading {
                     outcome: ApsOutcome::Read(at),
@@ -274,7 +297,7 @@ fn scaling_set(bytes: &[u8], id: u8, chroma: bool) -> ApsReading
                         kind: ApsKind::Scaling,
                         aps_adaptation_parameter_set_id: id,
                         aps_chroma_present_flag: chroma,
-                        aps_extension_flag: extension,
+                        aps_extension_flag: ending.extension,
                         alf: zero_alf(),
                         lmcs: zero_lmcs(),
                         scaling,
@@ -294,6 +317,9 @@ pub fn parse_aps_rbsp(bytes: &[u8]) -> ApsReading
 {
     if LONGEST_INPUT < bytes.len() {
         return refuse(Refusal::InputTooLong);
+    }
+    if lacks_bits(bytes, 0, 9) {
+        return refuse(Refusal::UnexpectedEnd);
     }
     let kind = read_u(bytes, 0, 3) as u8;
     let id = read_u(bytes, 3, 5) as u8;

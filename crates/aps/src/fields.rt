@@ -9,10 +9,10 @@ ghost use Prim.Native.Nat.{_+_, _≤_};
 ghost use lib.Dec.{eqb};
 ghost use lib.ListN.{length};
 ghost use Rattle.bitstream.specs.Bits.{fieldAt};
-ghost use Rattle.bitstream.specs.Fields.{readUe, readSe};
+ghost use Rattle.bitstream.specs.Fields.{lacks};
 ghost use Rattle.bitstream.specs.Reading.{outcomeU, outcomeS};
-ghost use Rattle.aps.specs.Codec.{u};
-ghost use Rattle.aps.specs.Elements.{signed};
+ghost use Rattle.aps.specs.Codec.{u, ue};
+ghost use Rattle.aps.specs.Elements.{se, signed};
 ghost use Rattle.aps.specs.Inner.{EndsBy, outcomeSigned};
 
 // Where a run of fields ended, or why it was refused.
@@ -27,18 +27,31 @@ pub(crate) enum SignedField {
     Refused(Refusal),
 }
 
-// u(n).
+// Whether n bits from bit p on pass the input's end.
+pub(crate) fn lacks_bits(bytes: &[u8], p: usize, n: usize) -> bool
+    requires { ⌜ (length (now bytes) ≤ 65536) × (p ≤ 1000000) × (n ≤ 1000) ⌝ }
+    ensures { λ r. ⌜ r ≡ lacks (now (bytes .entry)) p n ⌝ }
+{
+    if n == 0 {
+        return false;
+    }
+    bytes.len() * 8 < p + n
+}
+
+// u(n), of bits that are there.
 pub(crate) fn read_u(bytes: &[u8], p: usize, n: u32) -> u32
     requires { ⌜ (length (now bytes) ≤ 65536) × (p ≤ 1000000) × (n ≤ 32) ⌝ }
     ensures { λ r. ⌜ r ≡ fieldAt (now (bytes .entry)) p n ⌝ }
 {
-    match (BitReader { bit_pos: p }).u(bytes, n) {
+    let read = (BitReader { bit_pos: p }).u(bytes, n);
+    let field = read.field;
+    match field {
         FieldU::Value(v, _) => v,
         FieldU::Refused(_) => 0,
     }
 }
 
-// u(1) as a flag.
+// u(1) as a flag, of a bit that is there.
 pub(crate) fn read_flag(bytes: &[u8], p: usize) -> bool
     requires { ⌜ (length (now bytes) ≤ 65536) × (p ≤ 1000000) ⌝ }
     ensures { λ r. ⌜ r ≡ not (eqb (fieldAt (now (bytes .entry)) p 1) 0) ⌝ }
@@ -49,17 +62,27 @@ pub(crate) fn read_flag(bytes: &[u8], p: usize) -> bool
 // ue(v).
 pub(crate) fn read_ue(bytes: &[u8], p: usize) -> FieldU
     requires { ⌜ (length (now bytes) ≤ 65536) × (p ≤ 1000000) ⌝ }
-    ensures { λ r. ⌜ (outcomeU r ≡ readUe (now (bytes .entry)) p) × EndsBy (outcomeU r) (p + 63) ⌝ }
+    ensures { λ r. ⌜ (outcomeU r ≡ ue .read (now (bytes .entry)) p) × EndsBy (outcomeU r) (p + 63) ⌝ }
 {
-    (BitReader { bit_pos: p }).ue(bytes)
+    let read = (BitReader { bit_pos: p }).ue(bytes);
+    if read.lacking {
+        return FieldU::Refused(Refusal::UnexpectedEnd);
+    }
+    let field = read.field;
+    field
 }
 
 // se(v).
 pub(crate) fn read_se(bytes: &[u8], p: usize) -> FieldS
     requires { ⌜ (length (now bytes) ≤ 65536) × (p ≤ 1000000) ⌝ }
-    ensures { λ r. ⌜ (outcomeS r ≡ readSe (now (bytes .entry)) p) × EndsBy (outcomeS r) (p + 63) ⌝ }
+    ensures { λ r. ⌜ (outcomeS r ≡ se .read (now (bytes .entry)) p) × EndsBy (outcomeS r) (p + 63) ⌝ }
 {
-    (BitReader { bit_pos: p }).se(bytes)
+    let read = (BitReader { bit_pos: p }).se(bytes);
+    if read.lacking {
+        return FieldS::Refused(Refusal::UnexpectedEnd);
+    }
+    let field = read.field;
+    field
 }
 
 // A magnitude u(n), and its sign if it is not 0.
@@ -67,6 +90,9 @@ pub(crate) fn read_signed(bytes: &[u8], p: usize, n: u32) -> SignedField
     requires { ⌜ (length (now bytes) ≤ 65536) × (p ≤ 900000) × (n ≤ 32) ⌝ }
     ensures { λ r. ⌜ (outcomeSigned r ≡ (signed (u n)) .read (now (bytes .entry)) p) × EndsBy (outcomeSigned r) (p + n + 1) ⌝ }
 {
+    if lacks_bits(bytes, p, n as usize) {
+        return SignedField::Refused(Refusal::UnexpectedEnd);
+    }
     let abs = read_u(bytes, p, n);
     let q = p + n as usize;
     if abs == 0 {
@@ -75,6 +101,9 @@ pub(crate) fn read_signed(bytes: &[u8], p: usize, n: u32) -> SignedField
             sign: false,
             next: q,
         };
+    }
+    if lacks_bits(bytes, q, 1) {
+        return SignedField::Refused(Refusal::UnexpectedEnd);
     }
     SignedField::Value {
         abs,

@@ -1,5 +1,6 @@
 // scaling_list_data(), H.266 7.3.2.20, read.
 use crate::fields::Stop;
+use crate::fields::lacks_bits;
 use crate::fields::read_flag;
 use crate::fields::read_se;
 use crate::fields::read_ue;
@@ -167,12 +168,27 @@ fn read_delta(bytes: &[u8], p: usize, id: usize, used: bool) -> FieldU
     }
 }
 
+fn no_id(why: Refusal) -> IdRead
+    ensures { λ r. ⌜ r .stop ≡ Stop.Refused why ⌝ }
+{
+    IdRead {
+        stop: Stop::Refused(why),
+        copy: false,
+        pred: false,
+        delta: 0,
+        dc: 0,
+    }
+}
+
 // One coded id.
 fn read_entry(bytes: &[u8], p: usize, id: usize, list: &mut [i32; 1792]) -> IdRead
     requires { ⌜ (length (now bytes) ≤ 65536) × (p ≤ 600000) × (id < 28) ⌝ }
     ensures { λ r. ⌜ (outcomeId r (now (list .exit)) ≡ mapOutcome (stored (now (list .entry)) id) ((entrySyntax id) .read (now (bytes .entry)) p))
         × EndsBy (outcomeId r (now (list .exit))) (p + 4160) ⌝ }
 {
+    if lacks_bits(bytes, p, 1) {
+        return no_id(Refusal::UnexpectedEnd);
+    }
     if read_flag(bytes, p) {
         let field = read_delta(bytes, p + 1, id, true);
         return match field {
@@ -183,14 +199,11 @@ fn read_entry(bytes: &[u8], p: usize, id: usize, list: &mut [i32; 1792]) -> IdRe
                 delta,
                 dc: 0,
             },
-            FieldU::Refused(why) => IdRead {
-                stop: Stop::Refused(why),
-                copy: true,
-                pred: false,
-                delta: 0,
-                dc: 0,
-            },
+            FieldU::Refused(why) => no_id(why),
         };
+    }
+    if lacks_bits(bytes, p + 1, 1) {
+        return no_id(Refusal::UnexpectedEnd);
     }
     let pred = read_flag(bytes, p + 1);
     let field = read_delta(bytes, p + 2, id, pred);
@@ -206,13 +219,7 @@ fn read_entry(bytes: &[u8], p: usize, id: usize, list: &mut [i32; 1792]) -> IdRe
                 dc: read.dc,
             }
         }
-        FieldU::Refused(why) => IdRead {
-            stop: Stop::Refused(why),
-            copy: false,
-            pred,
-            delta: 0,
-            dc: 0,
-        },
+        FieldU::Refused(why) => no_id(why),
     }
 }
 

@@ -12,7 +12,8 @@ use Rattle.aps.specs.Codec.{Codec, u, when}
 use Rattle.aps.specs.Elements.{signed, noSigned}
 use Rattle.aps.specs.Inner.{outcomeSigned}
 use Rattle.aps.proofs.Steps.{when-read, Reading2, reading2-more, reading2-done, reading2-refused}
-use Rattle.aps.proofs.AlfSteps.{reading2-from, signed-lt}
+use Rattle.aps.proofs.FieldSteps.{signed-u-lt}
+use Rattle.aps.proofs.AlfSteps.{reading2-from}
 use Rattle.aps.proofs.alf_chroma.read_cc_coefficients.Statement.{statement}
 use Rattle.aps.proofs.alf_chroma.read_cc_coefficients.Tie as tie
 
@@ -48,7 +49,7 @@ cast-abs : tie.Need-cast-abs Inv-loop μ-loop
 cast-abs c =
     let l = c .before .before .before .before .before in
     let g = c .before .field .given in
-    omega (arith, signed-lt 3 (now (l .before .before .args .bytes)) (l .loop .at) (g .0 .0) (g .0 .1 .0) (g .0 .1 .1 .0) (sym (ap outcomeSigned (g .1)) ∙ c .before .before .before .read-signed .ensures .0))
+    omega (arith, signed-u-lt 3 (now (l .before .before .args .bytes)) (l .loop .at) (sym (c .before .before .before .read-signed .ensures .0) ∙ ap outcomeSigned (g .1)))
 
 element-write-abs : tie.Need-element-write-abs Inv-loop μ-loop
 element-write-abs c = omega (arith, c .before .before .before .before .before .loop .inv .2 .size)

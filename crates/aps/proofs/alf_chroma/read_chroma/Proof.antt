@@ -8,11 +8,23 @@ use lib.Dec.{eqb}
 use lib.ListN.{length}
 use Rattle.bitstream.specs.Reading.{outcomeU}
 use Rattle.aps.specs.AlfSyntax.{chroma, chromaSyntax, alternatives, toChroma, fromChroma, noChroma}
-use Rattle.aps.proofs.AlfSteps.{ueTo-most, head-value, head-refused}
+use Rattle.aps.proofs.AlfSteps.{ueTo-most, head-lacking, head-value, head-refused}
 use Rattle.aps.proofs.AlternativeSteps.{chroma-of-arrays}
 use Rattle.aps.proofs.StopLaws.{stops-more, stops-ends}
 use Rattle.aps.proofs.alf_chroma.read_chroma.Statement.{statement}
 use Rattle.aps.proofs.alf_chroma.read_chroma.Tie as tie
+
+lacks-bits-requires : tie.Need-lacks-bits-requires
+lacks-bits-requires c κs = search needs
+
+no-chroma-requires : tie.Need-no-chroma-requires
+no-chroma-requires c κs = search needs
+
+returns : tie.Need-returns
+unfolding chroma chromaSyntax
+returns c =
+    let a = c .before .before .before .before .args in
+    (sym (head-lacking toChroma fromChroma (λ d. eqb (length (d .«coeff_abs»)) (length (d .«coeff_sign»))) noChroma 7 alternatives (now (a .bytes)) (a .p) (sym (c .before .before .lacks-bits .ensures) ∙ c .before .if1 .taken)), tt)
 
 read-flag-requires : tie.Need-read-flag-requires
 read-flag-requires c κs = search needs
@@ -30,7 +42,7 @@ read-alternatives-requires : tie.Need-read-alternatives-requires
 read-alternatives-requires c κs =
     let g = c .before .before .before .before .count .given in
     let k = c .before .before .before .before .before .before in
-    let a = k .before .before .before .args in (
+    let a = k .before .before .before .before .before .args in (
       omega arith,
       omega (arith, rw (g .1) at (k .read-ue-to .ensures .1)),
       ueTo-most 7 (now (a .bytes)) (a .p + 1) (g .0 .0) (g .0 .1 .0 .«bit_pos») (sym (ap outcomeU (g .1)) ∙ k .read-ue-to .ensures .0),
@@ -42,16 +54,16 @@ read-alternatives-requires c κs =
 enum-known-count-2 : tie.Need-enum-known-count-2
 enum-known-count-2 c = search needs
 
-no-chroma-requires : tie.Need-no-chroma-requires
-no-chroma-requires c κs = search needs
+no-chroma-requires-2 : tie.Need-no-chroma-requires-2
+no-chroma-requires-2 c κs = search needs
 
-returns : tie.Need-returns
+returns-2 : tie.Need-returns-2
 unfolding chroma chromaSyntax
-returns c =
+returns-2 c =
     let d = c .read-alternatives in
     let g = c .before .before .before .before .before .count .given in
     let k = c .before .before .before .before .before .before .before in
-    let a = k .before .before .before .args in
+    let a = k .before .before .before .before .before .args in
     let s = now (a .bytes) in
     let clip = k .before .read-flag .result in
     let n = g .0 .0 in
@@ -59,17 +71,17 @@ returns c =
     let count = sym (k .read-ue-to .ensures .0) ∙ ap outcomeU (g .1) in
     let l = d .last .1 .1 .1 .1 in (
       chroma-of-arrays clip n (d .result) (l .0) (l .1 .0) (l .1 .1 .0) ((alternatives clip n) .read s q) (d .ensures .0)
-          ∙ sym (head-value toChroma fromChroma (λ d. eqb (length (d .«coeff_abs»)) (length (d .«coeff_sign»))) noChroma 7 alternatives s (a .p) clip n q (k .before .read-flag .ensures) count),
+          ∙ sym (head-value toChroma fromChroma (λ d. eqb (length (d .«coeff_abs»)) (length (d .«coeff_sign»))) noChroma 7 alternatives s (a .p) (sym (k .before .before .before .lacks-bits .ensures) ∙ k .before .before .if1 .left) clip n q (k .before .read-flag .ensures) count),
       stops-ends (d .result) (a .p + 3232) _ (stops-more (d .result) (q + 3168) (a .p + 3232) (d .ensures .1) (omega (arith, rw (g .1) at (k .read-ue-to .ensures .1)))),
     )
 
-returns-2 : tie.Need-returns-2
+returns-3 : tie.Need-returns-3
 unfolding chroma chromaSyntax
-returns-2 c =
+returns-3 c =
     let k = c .before .before .before .before in
-    let a = k .before .before .before .args in
+    let a = k .before .before .before .before .before .args in
     let count = sym (k .read-ue-to .ensures .0) ∙ ap outcomeU (c .before .before .count2 .given .1) in (
-      sym (head-refused toChroma fromChroma (λ d. eqb (length (d .«coeff_abs»)) (length (d .«coeff_sign»))) noChroma 7 alternatives (now (a .bytes)) (a .p) _ count),
+      sym (head-refused toChroma fromChroma (λ d. eqb (length (d .«coeff_abs»)) (length (d .«coeff_sign»))) noChroma 7 alternatives (now (a .bytes)) (a .p) (sym (k .before .before .before .lacks-bits .ensures) ∙ k .before .before .if1 .left) _ count),
       tt,
     )
 
@@ -77,12 +89,15 @@ pub read-chroma-spec : {M : Type 1} → statement M
 read-chroma-spec =
     tie.close
     (tie.spec
+    lacks-bits-requires
+    no-chroma-requires
+    returns
     read-flag-requires
     add-read-ue-to
     read-ue-to-requires
     enum-known-count
     read-alternatives-requires
     enum-known-count-2
-    no-chroma-requires
-    returns
-    returns-2)
+    no-chroma-requires-2
+    returns-2
+    returns-3)

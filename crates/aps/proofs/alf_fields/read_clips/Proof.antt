@@ -11,7 +11,8 @@ use Rattle.bitstream.specs.Outcome.{value}
 use Rattle.bitstream.proofs.FieldLaws.{field-lt}
 use Rattle.aps.specs.Codec.{Codec, u, when}
 use Rattle.aps.specs.Elements.{noNumber}
-use Rattle.aps.proofs.Steps.{u-read, when-read, Reading, reading-more, reading-done}
+use Rattle.aps.proofs.FieldSteps.{lacks-part, u-here, each-lacking}
+use Rattle.aps.proofs.Steps.{when-read, Reading, reading-more, reading-done}
 use Rattle.aps.proofs.AlfSteps.{reading-from}
 use Rattle.aps.proofs.StopLaws.{after-end, spans-end}
 use Rattle.aps.proofs.alf_fields.read_clips.Statement.{statement}
@@ -35,11 +36,29 @@ enum-known-from-2 c = search needs
 returns : tie.Need-returns Inv-loop μ-loop
 returns c = (rw (c .before .from2 .given .1), λ m h. tt)
 
+mul-lacks-bits : tie.Need-mul-lacks-bits Inv-loop μ-loop
+mul-lacks-bits c = omega arith
+
+lacks-bits-requires : tie.Need-lacks-bits-requires Inv-loop μ-loop
+lacks-bits-requires c κs =
+    (omega arith, omega (arith, rw (c .before .from .given .1) at (c .before .before .before .before .before .pre .1)), omega arith)
+
+returns-2 : tie.Need-returns-2 Inv-loop μ-loop
+returns-2 c =
+    let f = c .before .before .before in
+    let a = f .before .before .before .before .args in (
+      sym (after-end _ (f .from .given .1)
+          ∙ each-lacking (entry (a .n)) 2 0 (a .n) (length (a .clip .now)) (now (a .bytes)) (f .from .given .0 .0) (omega arith) (λ j q h b. rw (when-read, lt-ltb j (a .n) (omega arith)))
+          (sym (c .before .lacks-bits .ensures) ∙ c .if1 .taken)),
+      λ m h. tt,
+    )
+
 loop-holds : tie.Need-loop-holds Inv-loop μ-loop
 loop-holds c =
-    let b = c .before .before .before .before .before in
+    let f = c .before .before .before in
+    let b = f .before .before .before .before in
     let a = b .args in
-    let p = c .before .from .given .0 .0 in
+    let p = f .from .given .0 .0 in
     let z : p + 2 * 0 ≡ p = omega arith in
     (omega arith, rw z (reading-from (entry (a .n)) (length (a .clip .now)) 0 (now (a .bytes)) p (a .clip .now) (b .pre .4)))
 
@@ -48,18 +67,18 @@ mul-read-u c = omega arith
 
 add-read-u : tie.Need-add-read-u Inv-loop μ-loop
 add-read-u c =
-    let f = c .before .before .before in
+    let f = c .before .before .before .before .before in
     omega (arith, rw (f .from .given .1) at (f .before .before .before .before .pre .1))
 
 read-u-requires : tie.Need-read-u-requires Inv-loop μ-loop
 read-u-requires c κs =
-    let f = c .before .before .before in
+    let f = c .before .before .before .before .before in
     (omega arith, omega (arith, rw (f .from .given .1) at (f .before .before .before .before .pre .1)), omega arith)
 
 cast-clip : tie.Need-cast-clip Inv-loop μ-loop
 cast-clip c =
     let l = c .before .before in
-    let f = l .before .before in
+    let f = l .before .before .before .before in
     omega (arith, c .read-u .ensures, field-lt (now (f .before .before .before .before .args .bytes)) (f .from .given .0 .0 + 2 * l .loop .i) 2)
 
 slice-write-clip : tie.Need-slice-write-clip Inv-loop μ-loop
@@ -74,31 +93,32 @@ loop-less c = omega arith
 loop-again : tie.Need-loop-again Inv-loop μ-loop
 loop-again c =
     let l = c .before .before in
-    let f = l .before .before in
+    let f = l .before .before .before .before in
     let a = f .before .before .before .before .args in
     let p = f .from .given .0 .0 in
     let o = l .loop in
     let x = c .read-u .result in
+    let there = lacks-part (now (a .bytes)) p (2 * a .n) (p + 2 * o .i) 2 (sym (l .before .before .lacks-bits .ensures) ∙ l .before .if1 .left) (omega arith) (omega arith) in
     let q : p + 2 * o .i + 2 ≡ p + 2 * (o .i + 1) = omega arith in
     let e : (entry (a .n) (o .i)) .read (now (a .bytes)) (p + 2 * o .i) ≡ value x (p + 2 * (o .i + 1))
-    = rw (when-read, lt-ltb (o .i) (a .n) (omega arith), u-read, c .read-u .ensures, q) in
+    = rw (when-read, lt-ltb (o .i) (a .n) (omega arith), u-here 2 (now (a .bytes)) (p + 2 * o .i) there, c .read-u .ensures, q) in
     (omega arith, reading-more (entry (a .n)) (length (a .clip .now)) 0 (now (a .bytes)) p (o .i) (o .clip) (p + 2 * o .i) (o .inv .1) x (p + 2 * (o .i + 1)) (omega arith) e)
 
-mul-t16 : tie.Need-mul-t16 Inv-loop μ-loop
-mul-t16 c = omega arith
+mul-t11 : tie.Need-mul-t11 Inv-loop μ-loop
+mul-t11 c = omega arith
 
-add-t17 : tie.Need-add-t17 Inv-loop μ-loop
-add-t17 c =
-    let f = c .before .before .before in
+add-t19 : tie.Need-add-t19 Inv-loop μ-loop
+add-t19 c =
+    let f = c .before .before .before .before .before in
     omega (arith, rw (f .from .given .1) at (f .before .before .before .before .pre .1))
 
 same-length : tie.Need-same-length Inv-loop μ-loop
 same-length c = c .before .loop .inv .1 .size
 
-returns-2 : tie.Need-returns-2 Inv-loop μ-loop
-returns-2 c =
+returns-3 : tie.Need-returns-3 Inv-loop μ-loop
+returns-3 c =
     let l = c .before in
-    let f = l .before .before in
+    let f = l .before .before .before .before in
     let a = f .before .before .before .before .args in
     let p = f .from .given .0 .0 in
     let o = l .loop in
@@ -118,6 +138,9 @@ read-clips-spec =
     enum-known-from
     enum-known-from-2
     returns
+    mul-lacks-bits
+    lacks-bits-requires
+    returns-2
     loop-holds
     mul-read-u
     add-read-u
@@ -127,7 +150,7 @@ read-clips-spec =
     add-i
     loop-less
     loop-again
-    mul-t16
-    add-t17
+    mul-t11
+    add-t19
     same-length
-    returns-2)
+    returns-3)

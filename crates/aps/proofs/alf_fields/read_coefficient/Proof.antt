@@ -2,13 +2,14 @@
 use borrow.Author.Needs.{needs}
 use borrow.Author.Tests.{ne-eqb}
 use mathlib.Core.Path.{_≡_, sym, ap, _∙_}
+use Prim.Native.Nat.{_+_, _≤_}
 use native.Mathlib.Omega.{arith}
 use denote.Ref.{now}
 use Rattle.bitstream.specs.Outcome.{value}
 use Rattle.bitstream.specs.Reading.{outcomeU}
 use Rattle.aps.specs.Elements.{ueTo}
 use Rattle.aps.specs.AlfSyntax.{coefficient}
-use Rattle.aps.proofs.Steps.{signed-read, flag-read}
+use Rattle.aps.proofs.FieldSteps.{flag-here, flag-lacking, signed-read}
 use Rattle.aps.proofs.alf_fields.read_coefficient.Statement.{statement}
 use Rattle.aps.proofs.alf_fields.read_coefficient.Tie as tie
 
@@ -18,40 +19,49 @@ read-ue-to-requires c κs = search needs
 enum-known-magnitude : tie.Need-enum-known-magnitude
 enum-known-magnitude c = search needs
 
-read-flag-requires : tie.Need-read-flag-requires
-read-flag-requires c κs =
-    let k = c .before .before .before .read-ue-to in
-    (omega arith, omega (arith, rw (c .before .magnitude .given .1) at (k .ensures .1)))
+-- the magnitude that was read, and how far it reached
+module _ (c : tie.After-known-told) where
+  abbrev start : tie.Start
+  start = c .before .before .before .before .before
+
+  told : (ueTo 128) .read (now (start .args .bytes)) (start .args .p) ≡ value (c .before .magnitude .given .0 .0) (c .before .magnitude .given .0 .1 .0 .«bit_pos»)
+  told = sym (c .before .before .before .read-ue-to .ensures .0) ∙ ap outcomeU (c .before .magnitude .given .1)
+
+  near : c .before .magnitude .given .0 .1 .0 .«bit_pos» ≤ start .args .p + 63
+  near = rw (c .before .magnitude .given .1) at (c .before .before .before .read-ue-to .ensures .1)
 
 returns : tie.Need-returns
 unfolding coefficient
-returns c =
-    let k = c .before .before .before .before .before .read-ue-to in
-    let a = c .before .before .before .before .before .before .before .args in
-    let f = c .before .before .before .magnitude .given in
-    let e : (ueTo 128) .read (now (a .bytes)) (a .p) ≡ value (f .0 .0) (f .0 .1 .0 .«bit_pos») = sym (k .ensures .0) ∙ ap outcomeU (f .1) in
-    let z = c .if1 .taken in
-    (rw (signed-read, e, z), omega (arith, rw (f .1) at (k .ensures .1)))
+returns c = (rw (signed-read, told (c .before), c .if1 .taken), omega (arith, near (c .before)))
 
-add-t11 : tie.Need-add-t11
-add-t11 c =
-    let k = c .before .before .before .before .before .read-ue-to in
-    omega (arith, rw (c .before .before .before .magnitude .given .1) at (k .ensures .1))
-
-enum-known-magnitude-2 : tie.Need-enum-known-magnitude-2
-enum-known-magnitude-2 c = search needs
+lacks-bits-requires : tie.Need-lacks-bits-requires
+lacks-bits-requires c κs = (start (c .before) .pre .0, omega (arith, near (c .before)), omega arith)
 
 returns-2 : tie.Need-returns-2
 unfolding coefficient
 returns-2 c =
-    let k = c .before .before .before .before .before .read-ue-to in
-    let f = c .before .before .before .magnitude .given in
-    let e = sym (k .ensures .0) ∙ ap outcomeU (f .1) in
-    (rw (signed-read, e, ne-eqb _ _ (c .if1 .left), flag-read, c .before .read-flag .ensures), omega (arith, rw (f .1) at (k .ensures .1)))
+    let k = c .before .before .before in
+    (rw (signed-read, told k, ne-eqb _ _ (c .before .before .if1 .left), flag-lacking _ _ (sym (c .before .lacks-bits .ensures) ∙ c .if2 .taken)), tt)
+
+read-flag-requires : tie.Need-read-flag-requires
+read-flag-requires c κs = let k = c .before .before .before in (start k .pre .0, omega (arith, near k))
+
+add-t12 : tie.Need-add-t12
+add-t12 c = omega (arith, near (c .before .before .before .before))
+
+enum-known-magnitude-2 : tie.Need-enum-known-magnitude-2
+enum-known-magnitude-2 c = search needs
 
 returns-3 : tie.Need-returns-3
 unfolding coefficient
 returns-3 c =
+    let d = c .before in
+    let k = d .before .before .before in
+    (rw (signed-read, told k, ne-eqb _ _ (d .before .before .if1 .left), flag-here _ _ (sym (d .before .lacks-bits .ensures) ∙ d .if2 .left), c .read-flag .ensures), omega (arith, near k))
+
+returns-4 : tie.Need-returns-4
+unfolding coefficient
+returns-4 c =
     let k = c .before .before .before .read-ue-to in
     let e = sym (k .ensures .0) ∙ ap outcomeU (c .before .magnitude2 .given .1) in
     (rw (signed-read, e), tt)
@@ -62,9 +72,11 @@ read-coefficient-spec =
     (tie.spec
     read-ue-to-requires
     enum-known-magnitude
-    read-flag-requires
     returns
-    add-t11
-    enum-known-magnitude-2
+    lacks-bits-requires
     returns-2
-    returns-3)
+    read-flag-requires
+    add-t12
+    enum-known-magnitude-2
+    returns-3
+    returns-4)

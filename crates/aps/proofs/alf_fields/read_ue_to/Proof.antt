@@ -3,7 +3,7 @@ use borrow.Author.Needs.{needs}
 use borrow.Author.Tests.{le-leb, lt-leb}
 use mathlib.Core.Path.{sym, ap, _∙_}
 use Rattle.bitstream.specs.Reading.{outcomeU}
-use Rattle.aps.proofs.Steps.{ueTo-read}
+use Rattle.aps.proofs.FieldSteps.{ueTo-read}
 use Rattle.aps.proofs.alf_fields.read_ue_to.Statement.{statement}
 use Rattle.aps.proofs.alf_fields.read_ue_to.Tie as tie
 

@@ -1,12 +1,12 @@
 -- `read_indexes`: the loop has read the first i indexes.
-use mathlib.Core.Path.{sym}
+use mathlib.Core.Path.{sym, _∙_}
 use Prim.Native.Nat.{_+_, _-_, _*_, _≤_}
 use native.Mathlib.Omega.{arith}
 use borrow.Author.Needs.{needs}
 use borrow.Author.Tests.{le-ltb}
 use denote.Ref.{now}
 use Rattle.aps.proofs.Steps.{when-read, Reading, reading-more, reading-done, reading-refused}
-use Rattle.aps.proofs.AlfSteps.{reading-from, index, index-taken, index-refused}
+use Rattle.aps.proofs.AlfSteps.{reading-from, index, index-lacking, index-taken, index-refused}
 use Rattle.aps.proofs.alf_luma.read_indexes.Statement.{statement}
 use Rattle.aps.proofs.alf_luma.read_indexes.Tie as tie
 
@@ -38,8 +38,11 @@ loop-holds c =
     let a = b .args in
     (omega arith, omega arith, reading-from (λ i. index (a .count-minus1)) 25 0 (now (a .bytes)) (a .p) (a .idx .now) (b .pre .3))
 
-read-u-requires : tie.Need-read-u-requires Inv-loop μ-loop
-read-u-requires c κs = (omega arith, omega arith, omega arith)
+cast-lacks-bits : tie.Need-cast-lacks-bits Inv-loop μ-loop
+cast-lacks-bits c = search needs
+
+lacks-bits-requires : tie.Need-lacks-bits-requires Inv-loop μ-loop
+lacks-bits-requires c κs = (omega arith, omega arith, omega arith)
 
 returns-2 : tie.Need-returns-2 Inv-loop μ-loop
 returns-2 c =
@@ -47,8 +50,23 @@ returns-2 c =
     let a = l .before .before .before .before .args in
     let o = l .loop in
     let n = a .count-minus1 in
+    let w = l .before .ceil-log2 in
+    let e = index-lacking n (now (a .bytes)) (o .at) (w .result) (w .ensures .0) (omega arith) (sym (c .before .lacks-bits .ensures) ∙ c .if2 .taken) in
+    (sym (reading-refused (λ i. index n) 25 0 (now (a .bytes)) (a .p) (o .i) (o .idx) (o .at) (o .inv .2) 1 (omega arith) e), tt)
+
+read-u-requires : tie.Need-read-u-requires Inv-loop μ-loop
+read-u-requires c κs = (omega arith, omega arith, omega arith)
+
+returns-3 : tie.Need-returns-3 Inv-loop μ-loop
+returns-3 c =
+    let d = c .before .before in
+    let l = d .before .before .before in
+    let a = l .before .before .before .before .args in
+    let o = l .loop in
+    let n = a .count-minus1 in
     let k = c .before .read-u in
-    let e = index-refused n (now (a .bytes)) (o .at) (l .before .ceil-log2 .result) (k .result) (l .before .ceil-log2 .ensures .0) (k .ensures) (omega arith) (c .if2 .taken) in
+    let w = l .before .ceil-log2 in
+    let e = index-refused n (now (a .bytes)) (o .at) (w .result) (w .ensures .0) (omega arith) (k .result) (sym (d .before .lacks-bits .ensures) ∙ d .if2 .left) (k .ensures) (c .if3 .taken) in
     (sym (reading-refused (λ i. index n) 25 0 (now (a .bytes)) (a .p) (o .i) (o .idx) (o .at) (o .inv .2) 2 (omega arith) e), tt)
 
 cast-idx : tie.Need-cast-idx Inv-loop μ-loop
@@ -71,17 +89,18 @@ loop-less c = omega arith
 
 loop-again : tie.Need-loop-again Inv-loop μ-loop
 loop-again c =
-    let l = c .before .before .before in
+    let d = c .before .before in
+    let l = d .before .before .before in
     let a = l .before .before .before .before .args in
     let o = l .loop in
     let n = a .count-minus1 in
     let k = c .before .read-u in
     let w = l .before .ceil-log2 in
-    let e = index-taken n (now (a .bytes)) (o .at) (w .result) (k .result) (w .ensures .0) (k .ensures) (omega arith) (c .if2 .left) in
+    let e = index-taken n (now (a .bytes)) (o .at) (w .result) (w .ensures .0) (omega arith) (k .result) (sym (d .before .lacks-bits .ensures) ∙ d .if2 .left) (k .ensures) (c .if3 .left) in
     (omega arith, omega arith, reading-more (λ i. index n) 25 0 (now (a .bytes)) (a .p) (o .i) (o .idx) (o .at) (o .inv .2) (k .result) (o .at + w .result) (omega arith) e)
 
-returns-3 : tie.Need-returns-3 Inv-loop μ-loop
-returns-3 c =
+returns-4 : tie.Need-returns-4 Inv-loop μ-loop
+returns-4 c =
     let l = c .before in
     let a = l .before .before .before .before .args in
     let o = l .loop in
@@ -97,8 +116,11 @@ read-indexes-spec =
     add-ceil-log2
     ceil-log2-requires
     loop-holds
-    read-u-requires
+    cast-lacks-bits
+    lacks-bits-requires
     returns-2
+    read-u-requires
+    returns-3
     cast-idx
     element-write-idx
     cast-at
@@ -106,4 +128,4 @@ read-indexes-spec =
     add-i
     loop-less
     loop-again
-    returns-3)
+    returns-4)

@@ -8,10 +8,22 @@ use denote.Ref.{now}
 use Rattle.bitstream.specs.Reading.{outcomeU}
 use Rattle.aps.specs.AlfSyntax.{luma, lumaSyntax, lumaFilters, toLuma, fromLuma, noLuma}
 use Rattle.aps.specs.Inner.{outcomeStop}
-use Rattle.aps.proofs.AlfSteps.{ueTo-most, head-value, head-refused}
+use Rattle.aps.proofs.AlfSteps.{ueTo-most, head-lacking, head-value, head-refused}
 use Rattle.aps.proofs.StopLaws.{ends-more}
 use Rattle.aps.proofs.alf_luma.read_luma.Statement.{statement}
 use Rattle.aps.proofs.alf_luma.read_luma.Tie as tie
+
+lacks-bits-requires : tie.Need-lacks-bits-requires
+lacks-bits-requires c κs = search needs
+
+no-luma-requires : tie.Need-no-luma-requires
+no-luma-requires c κs = search needs
+
+returns : tie.Need-returns
+unfolding luma lumaSyntax
+returns c =
+    let a = c .before .before .before .before .args in
+    (sym (head-lacking toLuma fromLuma (λ d. true) noLuma 24 lumaFilters (now (a .bytes)) (a .p) (sym (c .before .before .lacks-bits .ensures) ∙ c .before .if1 .taken)), tt)
 
 read-flag-requires : tie.Need-read-flag-requires
 read-flag-requires c κs = search needs
@@ -29,7 +41,7 @@ read-luma-filters-requires : tie.Need-read-luma-filters-requires
 read-luma-filters-requires c κs =
     let k = c .before .before .before in
     let g = c .before .count .given in
-    let a = k .before .before .before .args in (
+    let a = k .before .before .before .before .before .args in (
       omega arith,
       omega (arith, rw (g .1) at (k .read-ue-to .ensures .1)),
       ueTo-most 24 (now (a .bytes)) (a .p + 1) (g .0 .0) (g .0 .1 .0 .«bit_pos») (sym (ap outcomeU (g .1)) ∙ k .read-ue-to .ensures .0),
@@ -38,39 +50,42 @@ read-luma-filters-requires c κs =
 enum-known-count-2 : tie.Need-enum-known-count-2
 enum-known-count-2 c = search needs
 
-no-luma-requires : tie.Need-no-luma-requires
-no-luma-requires c κs = search needs
-
-returns : tie.Need-returns
-unfolding luma lumaSyntax
-returns c =
-    let d = c .read-luma-filters in
-    let g = c .before .before .count .given in
-    let k = c .before .before .before .before in
-    let a = k .before .before .before .args in
-    let count = sym (k .read-ue-to .ensures .0) ∙ ap outcomeU (g .1) in (
-      d .ensures .0 ∙ sym (head-value toLuma fromLuma (λ d. true) noLuma 24 lumaFilters (now (a .bytes)) (a .p) (k .before .read-flag .result) (g .0 .0) (g .0 .1 .0 .«bit_pos») (k .before .read-flag .ensures) count),
-      ends-more (outcomeStop (d .result .stop) (d .result .luma)) (g .0 .1 .0 .«bit_pos» + 20600) (a .p + 20664) (d .ensures .1) (omega (arith, rw (g .1) at (k .read-ue-to .ensures .1))),
-    )
+no-luma-requires-2 : tie.Need-no-luma-requires-2
+no-luma-requires-2 c κs = search needs
 
 returns-2 : tie.Need-returns-2
 unfolding luma lumaSyntax
 returns-2 c =
+    let d = c .read-luma-filters in
+    let g = c .before .before .count .given in
     let k = c .before .before .before .before in
-    let a = k .before .before .before .args in
+    let a = k .before .before .before .before .before .args in
+    let count = sym (k .read-ue-to .ensures .0) ∙ ap outcomeU (g .1) in (
+      d .ensures .0 ∙ sym (head-value toLuma fromLuma (λ d. true) noLuma 24 lumaFilters (now (a .bytes)) (a .p) (sym (k .before .before .before .lacks-bits .ensures) ∙ k .before .before .if1 .left) (k .before .read-flag .result) (g .0 .0) (g .0 .1 .0 .«bit_pos») (k .before .read-flag .ensures) count),
+      ends-more (outcomeStop (d .result .stop) (d .result .luma)) (g .0 .1 .0 .«bit_pos» + 20600) (a .p + 20664) (d .ensures .1) (omega (arith, rw (g .1) at (k .read-ue-to .ensures .1))),
+    )
+
+returns-3 : tie.Need-returns-3
+unfolding luma lumaSyntax
+returns-3 c =
+    let k = c .before .before .before .before in
+    let a = k .before .before .before .before .before .args in
     let count = sym (k .read-ue-to .ensures .0) ∙ ap outcomeU (c .before .before .count2 .given .1) in
-    (sym (head-refused toLuma fromLuma (λ d. true) noLuma 24 lumaFilters (now (a .bytes)) (a .p) _ count), tt)
+    (sym (head-refused toLuma fromLuma (λ d. true) noLuma 24 lumaFilters (now (a .bytes)) (a .p) (sym (k .before .before .before .lacks-bits .ensures) ∙ k .before .before .if1 .left) _ count), tt)
 
 pub read-luma-spec : {M : Type 1} → statement M
 read-luma-spec =
     tie.close
     (tie.spec
+    lacks-bits-requires
+    no-luma-requires
+    returns
     read-flag-requires
     add-read-ue-to
     read-ue-to-requires
     enum-known-count
     read-luma-filters-requires
     enum-known-count-2
-    no-luma-requires
-    returns
-    returns-2)
+    no-luma-requires-2
+    returns-2
+    returns-3)

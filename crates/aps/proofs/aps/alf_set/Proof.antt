@@ -6,13 +6,13 @@ use denote.Ref.{now}
 use native.Mathlib.Omega.{arith}
 use Rattle.bitstream.specs.Outcome.{value}
 use Rattle.aps.specs.AlfSyntax.{alf}
-use Rattle.aps.specs.Inner.{outcomeStop}
+use Rattle.aps.specs.Inner.{outcomeStop, withExtension}
 use Rattle.aps.proofs.aps.alf_set.Statement.{statement}
 use Rattle.aps.proofs.aps.alf_set.Tie as tie
 use Rattle.aps.specs.ApsSyntax.{zeroLmcs, zeroScaling}
 use Rattle.aps.specs.declared.aps.ApsKind.{ApsKind}
 use Rattle.aps.proofs.Answers.{answered, refused-answer}
-use Rattle.aps.proofs.RbspSteps.{withExtension, setOf, alf-refused, alf-id, alf-set, set-ended, set-refused}
+use Rattle.aps.proofs.RbspSteps.{setOf, alf-refused, alf-id, alf-set, set-ended, set-refused}
 
 -- what the payload gave, and how far it reached
 taken : (c : tie.After-known-told)
@@ -38,14 +38,8 @@ returns c =
     let t = taken (c .before .before) in
     refused-answer (c .refuse .result) _ (c .refuse .ensures) (alf-id (now (b .args .bytes)) (b .args .id) (b .args .chroma) (b .pre .1) _ _ (t .0) (c .before .if1 .taken))
 
-read-flag-requires : tie.Need-read-flag-requires
-read-flag-requires c κs = (c .before .before .before .before .before .before .before .pre .0, omega (arith, taken (c .before) .1))
-
-add-read-end : tie.Need-add-read-end
-add-read-end c = omega (arith, taken (c .before .before) .1)
-
-read-end-requires : tie.Need-read-end-requires
-read-end-requires c κs = (c .before .before .before .before .before .before .before .before .pre .0, omega (arith, taken (c .before .before) .1))
+read-ending-requires : tie.Need-read-ending-requires
+read-ending-requires c κs = (c .before .before .before .before .before .before .before .pre .0, omega (arith, taken (c .before) .1))
 
 enum-known-end : tie.Need-enum-known-end
 enum-known-end c = search needs
@@ -71,23 +65,21 @@ refuse-requires-3 c κs = search needs
 returns-2 : tie.Need-returns-2
 unfolding withExtension
 returns-2 c =
-    let b = c .before .before .before .before .before .before .before .before .before .before .before .before .before .before in
-    let k = c .before .before .before .before .before .before .before .before .before .before .before .before .parse-alf-data in
-    let t = taken (c .before .before .before .before .before .before .before .before) in
-    let x = c .before .before .before .before .before .before .read-flag in
-    let r = c .before .before .before .before .before .read-end in
-    rw (c .before .zero-lmcs .ensures, c .zero-scaling .ensures)
-    (set-ended (now (b .args .bytes)) (setOf ApsKind.Alf (b .args .id) (b .args .chroma) (k .result .alf) zeroLmcs zeroScaling) _ (x .result) (r .result) (x .ensures) (r .ensures) (alf-set (now (b .args .bytes)) (b .args .id) (b .args .chroma) (b .pre .1) _ _ (t .0) (c .before .before .before .before .before .before .before .if1 .left)) _ (c .before .before .before .end .given .1))
-
-returns-3 : tie.Need-returns-3
-returns-3 c =
     let b = c .before .before .before .before .before .before .before .before .before .before .before .before .before in
     let k = c .before .before .before .before .before .before .before .before .before .before .before .parse-alf-data in
     let t = taken (c .before .before .before .before .before .before .before) in
-    let x = c .before .before .before .before .before .read-flag in
-    let r = c .before .before .before .before .read-end in
+    let r = c .before .before .before .before .before .read-ending in
+    rw (c .before .zero-lmcs .ensures, c .zero-scaling .ensures)
+    (set-ended (setOf ApsKind.Alf (b .args .id) (b .args .chroma) (k .result .alf) zeroLmcs zeroScaling) (r .result .extension) (r .result .outcome) (r .ensures _) (alf-set (now (b .args .bytes)) (b .args .id) (b .args .chroma) (b .pre .1) _ _ (t .0) (c .before .before .before .before .before .before .if1 .left)) _ (c .before .before .before .end .given .1))
+
+returns-3 : tie.Need-returns-3
+returns-3 c =
+    let b = c .before .before .before .before .before .before .before .before .before .before .before .before in
+    let k = c .before .before .before .before .before .before .before .before .before .before .parse-alf-data in
+    let t = taken (c .before .before .before .before .before .before) in
+    let r = c .before .before .before .before .read-ending in
     refused-answer (c .refuse2 .result) _ (c .refuse2 .ensures)
-    (set-refused (now (b .args .bytes)) (setOf ApsKind.Alf (b .args .id) (b .args .chroma) (k .result .alf) zeroLmcs zeroScaling) _ (x .result) (r .result) (x .ensures) (r .ensures) (alf-set (now (b .args .bytes)) (b .args .id) (b .args .chroma) (b .pre .1) _ _ (t .0) (c .before .before .before .before .before .before .if1 .left)) _ (c .before .before .end2 .given .1))
+    (set-refused (setOf ApsKind.Alf (b .args .id) (b .args .chroma) (k .result .alf) zeroLmcs zeroScaling) (r .result .extension) (r .result .outcome) (r .ensures _) (alf-set (now (b .args .bytes)) (b .args .id) (b .args .chroma) (b .pre .1) _ _ (t .0) (c .before .before .before .before .before .if1 .left)) _ (c .before .before .end2 .given .1))
 
 returns-4 : tie.Need-returns-4
 returns-4 c =
@@ -104,9 +96,7 @@ alf-set-spec =
     enum-known-stop
     refuse-requires
     returns
-    read-flag-requires
-    add-read-end
-    read-end-requires
+    read-ending-requires
     enum-known-end
     zero-lmcs-requires
     zero-scaling-requires

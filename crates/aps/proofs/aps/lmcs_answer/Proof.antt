@@ -6,13 +6,13 @@ use denote.Ref.{now}
 use native.Mathlib.Omega.{arith}
 use Rattle.bitstream.specs.Outcome.{value}
 use Rattle.aps.specs.LmcsSyntax.{lmcs}
-use Rattle.aps.specs.Inner.{outcomeStop}
+use Rattle.aps.specs.Inner.{outcomeStop, withExtension}
 use Rattle.aps.proofs.aps.lmcs_answer.Statement.{statement}
 use Rattle.aps.proofs.aps.lmcs_answer.Tie as tie
 use Rattle.aps.specs.ApsSyntax.{zeroAlf, zeroScaling}
 use Rattle.aps.specs.declared.aps.ApsKind.{ApsKind}
 use Rattle.aps.proofs.Answers.{answered, refused-parts}
-use Rattle.aps.proofs.RbspSteps.{withExtension, setOf, lmcs-refused, lmcs-id, lmcs-set, set-ended, set-refused}
+use Rattle.aps.proofs.RbspSteps.{setOf, lmcs-refused, lmcs-id, lmcs-set, set-ended, set-refused}
 
 -- what the payload gave, and how far it reached
 taken : (c : tie.After-known-told)
@@ -35,14 +35,8 @@ parse-lmcs-data-requires c κs = search needs
 enum-known-stop : tie.Need-enum-known-stop
 enum-known-stop c = search needs
 
-read-flag-requires : tie.Need-read-flag-requires
-read-flag-requires c κs = (c .before .before .before .before .before .before .before .pre .0, omega (arith, taken c .1))
-
-add-read-end : tie.Need-add-read-end
-add-read-end c = omega (arith, taken (c .before) .1)
-
-read-end-requires : tie.Need-read-end-requires
-read-end-requires c κs = (c .before .before .before .before .before .before .before .before .pre .0, omega (arith, taken (c .before) .1))
+read-ending-requires : tie.Need-read-ending-requires
+read-ending-requires c κs = (c .before .before .before .before .before .before .before .pre .0, omega (arith, taken c .1))
 
 enum-known-end : tie.Need-enum-known-end
 enum-known-end c = search needs
@@ -62,23 +56,21 @@ refuse-lmcs-requires-3 c κs = search needs
 returns-2 : tie.Need-returns-2
 unfolding withExtension
 returns-2 c =
-    let b = c .before .before .before .before .before .before .before .before .before .before .before .before in
-    let k = c .before .before .before .before .before .before .before .before .before .parse-lmcs-data in
-    let t = taken (c .before .before .before .before .before) in
-    let x = c .before .before .before .before .read-flag in
-    let r = c .before .before .before .read-end in
+    let b = c .before .before .before .before .before .before .before .before .before .before .before in
+    let k = c .before .before .before .before .before .before .before .before .parse-lmcs-data in
+    let t = taken (c .before .before .before .before) in
+    let r = c .before .before .before .read-ending in
     λ a f. rw f
-    (set-ended (now (b .args .bytes)) (setOf ApsKind.Lmcs (b .args .id) (b .args .chroma) zeroAlf (k .result .lmcs) zeroScaling) _ (x .result) (r .result) (x .ensures) (r .ensures) (lmcs-set (now (b .args .bytes)) (b .args .id) (b .args .chroma) (b .pre .1) (c .before .before .before .before .before .before .before .before .before .before .if1 .left) _ _ (t .0)) _ (c .before .end .given .1))
+    (set-ended (setOf ApsKind.Lmcs (b .args .id) (b .args .chroma) zeroAlf (k .result .lmcs) zeroScaling) (r .result .extension) (r .result .outcome) (r .ensures _) (lmcs-set (now (b .args .bytes)) (b .args .id) (b .args .chroma) (b .pre .1) (c .before .before .before .before .before .before .before .before .before .if1 .left) _ _ (t .0)) _ (c .before .end .given .1))
 
 returns-3 : tie.Need-returns-3
 returns-3 c =
-    let b = c .before .before .before .before .before .before .before .before .before .before .before .before .before in
-    let k = c .before .before .before .before .before .before .before .before .before .before .parse-lmcs-data in
-    let t = taken (c .before .before .before .before .before .before) in
-    let x = c .before .before .before .before .before .read-flag in
-    let r = c .before .before .before .before .read-end in
+    let b = c .before .before .before .before .before .before .before .before .before .before .before .before in
+    let k = c .before .before .before .before .before .before .before .before .before .parse-lmcs-data in
+    let t = taken (c .before .before .before .before .before) in
+    let r = c .before .before .before .before .read-ending in
     refused-parts _ (c .refuse-lmcs2 .ensures)
-    (set-refused (now (b .args .bytes)) (setOf ApsKind.Lmcs (b .args .id) (b .args .chroma) zeroAlf (k .result .lmcs) zeroScaling) _ (x .result) (r .result) (x .ensures) (r .ensures) (lmcs-set (now (b .args .bytes)) (b .args .id) (b .args .chroma) (b .pre .1) (c .before .before .before .before .before .before .before .before .before .before .before .if1 .left) _ _ (t .0)) _ (c .before .before .end2 .given .1))
+    (set-refused (setOf ApsKind.Lmcs (b .args .id) (b .args .chroma) zeroAlf (k .result .lmcs) zeroScaling) (r .result .extension) (r .result .outcome) (r .ensures _) (lmcs-set (now (b .args .bytes)) (b .args .id) (b .args .chroma) (b .pre .1) (c .before .before .before .before .before .before .before .before .before .before .if1 .left) _ _ (t .0)) _ (c .before .before .end2 .given .1))
 
 returns-4 : tie.Need-returns-4
 returns-4 c =
@@ -95,9 +87,7 @@ lmcs-answer-spec =
     returns
     parse-lmcs-data-requires
     enum-known-stop
-    read-flag-requires
-    add-read-end
-    read-end-requires
+    read-ending-requires
     enum-known-end
     enum-known-end-2
     refuse-lmcs-requires-2

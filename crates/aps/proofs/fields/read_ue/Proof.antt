@@ -1,10 +1,10 @@
--- `read_ue`: inside the limits the call reads what the syntax reads, at most 63 bits.
+-- `read_ue`: inside the limits the call reads what the syntax reads, at most 63 bits, where none is lacking.
 use borrow.Author.Needs.{needs}
-use mathlib.Core.Path.{_∙_}
+use mathlib.Core.Path.{sym, _∙_}
 use denote.Ref.{now}
 use native.Mathlib.Omega.{arith}
-use Rattle.bitstream.proofs.CallLaws.{ue-in}
 use Rattle.aps.proofs.Bounds.{ue-ends}
+use Rattle.aps.proofs.FieldSteps.{ue-here, ue-lacking}
 use Rattle.aps.proofs.fields.read_ue.Statement.{statement}
 use Rattle.aps.proofs.fields.read_ue.Tie as tie
 
@@ -13,9 +13,17 @@ ue-requires c κs = search needs
 
 returns : tie.Need-returns
 returns c =
-    let a = c .before .before .args in
-    let e = c .ue .ensures ∙ ue-in (now (a .bytes)) (a .p) (c .before .before .pre .0) (omega arith) in
-    (e, ue-ends _ _ e)
+    let k = c .before .ue in
+    let b = c .before .before .before in
+    (sym (ue-lacking (now (b .args .bytes)) (b .args .p) (b .pre .0) (omega arith) (sym (k .ensures .1) ∙ c .if1 .taken)), tt)
+
+returns-2 : tie.Need-returns-2
+returns-2 c =
+    let k = c .before .ue in
+    let b = c .before .before .before in
+    let s = now (b .args .bytes) in
+    let e = k .ensures .0 ∙ sym (ue-here s (b .args .p) (b .pre .0) (omega arith) (sym (k .ensures .1) ∙ c .if1 .left)) in
+    (e, rw e (ue-ends s (b .args .p)))
 
 pub read-ue-spec : {M : Type 1} → statement M
-read-ue-spec = tie.close (tie.spec ue-requires returns)
+read-ue-spec = tie.close (tie.spec ue-requires returns returns-2)

@@ -5,8 +5,8 @@ use mathlib.Core.Path.{_≡_, sym, _∙_}
 use denote.Ref.{now}
 use native.Mathlib.Omega.{arith}
 use Rattle.bitstream.specs.Outcome.{value}
-use Rattle.bitstream.specs.Fields.{readUe}
 use Rattle.bitstream.specs.Reading.{outcomeU}
+use Rattle.aps.specs.Codec.{ue}
 use Rattle.aps.proofs.Answers.{answered}
 use Rattle.aps.proofs.LmcsSteps.{min-refused, max-refused, prec-refused, range-refused, head-read}
 use Rattle.aps.proofs.lmcs.read_head.Statement.{statement}
@@ -14,21 +14,21 @@ use Rattle.aps.proofs.lmcs.read_head.Tie as tie
 
 -- what each read that was taken gave, and how far it reached
 first : (c : tie.After-known-told2)
-    → (readUe (now (c .before .before .before .before .before .args .bytes)) (c .before .before .before .before .before .args .p) ≡ value (c .before .min .given .0 .0) (c .before .min .given .0 .1 .0 .«bit_pos»))
+    → (ue .read (now (c .before .before .before .before .before .args .bytes)) (c .before .before .before .before .before .args .p) ≡ value (c .before .min .given .0 .0) (c .before .min .given .0 .1 .0 .«bit_pos»))
     × (c .before .min .given .0 .1 .0 .«bit_pos» ≤ c .before .before .before .before .before .args .p + 63)
 first c =
     let e = c .before .before .before .read-ue .ensures in
     (answered outcomeU (c .before .min .given .1) (e .0), rw (c .before .min .given .1) at (e .1))
 
 second : (c : tie.After-known-told4)
-    → (readUe (now (c .before .before .before .before .before .before .before .before .before .args .bytes)) (c .before .before .before .before .before .min .given .0 .1 .0 .«bit_pos») ≡ value (c .before .max .given .0 .0) (c .before .max .given .0 .1 .0 .«bit_pos»))
+    → (ue .read (now (c .before .before .before .before .before .before .before .before .before .args .bytes)) (c .before .before .before .before .before .min .given .0 .1 .0 .«bit_pos») ≡ value (c .before .max .given .0 .0) (c .before .max .given .0 .1 .0 .«bit_pos»))
     × (c .before .max .given .0 .1 .0 .«bit_pos» ≤ c .before .before .before .before .before .min .given .0 .1 .0 .«bit_pos» + 63)
 second c =
     let e = c .before .before .before .read-ue2 .ensures in
     (answered outcomeU (c .before .max .given .1) (e .0), rw (c .before .max .given .1) at (e .1))
 
 third : (c : tie.After-known-told6)
-    → (readUe (now (c .before .before .before .before .before .before .before .before .before .before .before .before .before .args .bytes)) (c .before .before .before .before .before .max .given .0 .1 .0 .«bit_pos») ≡ value (c .before .prec .given .0 .0) (c .before .prec .given .0 .1 .0 .«bit_pos»))
+    → (ue .read (now (c .before .before .before .before .before .before .before .before .before .before .before .before .before .args .bytes)) (c .before .before .before .before .before .max .given .0 .1 .0 .«bit_pos») ≡ value (c .before .prec .given .0 .0) (c .before .prec .given .0 .1 .0 .«bit_pos»))
     × (c .before .prec .given .0 .1 .0 .«bit_pos» ≤ c .before .before .before .before .before .max .given .0 .1 .0 .«bit_pos» + 63)
 third c =
     let e = c .before .before .before .read-ue3 .ensures in

@@ -7,10 +7,11 @@ use native.Mathlib.Omega.{arith}
 use denote.Ref.{now}
 use lib.Dec.{eqb}
 use Rattle.bitstream.specs.Outcome.{value}
-use Rattle.bitstream.specs.Fields.{readUe}
 use Rattle.bitstream.specs.Reading.{outcomeU}
 use Rattle.aps.proofs.Bounds.{ends-at}
-use Rattle.aps.proofs.Steps.{ueTo-read, when-read}
+use Rattle.aps.specs.Codec.{ue}
+use Rattle.aps.proofs.FieldSteps.{ueTo-read}
+use Rattle.aps.proofs.Steps.{when-read}
 use Rattle.aps.proofs.scaling_list_data.read_delta.Statement.{statement}
 use Rattle.aps.proofs.scaling_list_data.read_delta.Tie as tie
 
@@ -42,7 +43,7 @@ module _ (c : tie.After-known-told) where
   abbrev read : tie.After-read-ue
   read = c .before .before .before
 
-  told : readUe (now (start read .args .bytes)) (start read .args .p) ≡ value (c .before .field .given .0 .0) (c .before .field .given .0 .1 .0 .«bit_pos»)
+  told : ue .read (now (start read .args .bytes)) (start read .args .p) ≡ value (c .before .field .given .0 .0) (c .before .field .given .0 .1 .0 .«bit_pos»)
   told = sym (read .read-ue .ensures .0) ∙ ap outcomeU (c .before .field .given .1)
 
 cast-if2 : tie.Need-cast-if2

@@ -6,7 +6,7 @@ use mir.Syntax.{w32}
 use mir.Val.{toZ, ofZ}
 use mir.Facts.{toZ-ofZ}
 use Rattle.bitstream.specs.Outcome.{value}
-use Rattle.bitstream.specs.Fields.{readSe}
+use Rattle.aps.specs.Elements.{se}
 use Rattle.bitstream.specs.Reading.{outcomeS}
 use Rattle.aps.proofs.Bounds.{ends-at}
 use Rattle.aps.proofs.ScalingSteps.{se8-refused, se8-low, se8-high, se8-in}
@@ -23,7 +23,7 @@ module _ (c : tie.After-known-told) where
   abbrev read : tie.After-read-se
   read = c .before .before .before
 
-  abbrev told : readSe (now (read .before .before .args .bytes)) (read .before .before .args .p) ≡ value (c .before .field .given .0 .0) (c .before .field .given .0 .1 .0 .«bit_pos»)
+  abbrev told : se .read (now (read .before .before .args .bytes)) (read .before .before .args .p) ≡ value (c .before .field .given .0 .0) (c .before .field .given .0 .1 .0 .«bit_pos»)
   told = sym (read .read-se .ensures .0) ∙ ap outcomeS (c .before .field .given .1)
 
   value-is : toZ w32 (ofZ w32 (c .before .field .given .0 .0)) ≡ c .before .field .given .0 .0
