@@ -2,7 +2,7 @@
 use mathlib.Core.Path.{_≡_, refl, ap}
 use mathlib.Core.Bool.{Bool, true, _&&_}
 use mathlib.Core.List.{List}
-use Prim.Native.Nat.{ℕ, zero, suc, _+_, _*_, _≤_, _<_}
+use Prim.Native.Nat.{ℕ, zero, suc, _+_, _≤_}
 use native.Mathlib.Omega.{arith}
 use lib.Dec.{leb, lit≤}
 use lib.ListN.{length, length-append}
@@ -118,17 +118,16 @@ module _ (s : List ℕ) (p : ℕ) where
   aps-value a q e = via-value toAps fromAps (λ a. true) apsSyntax-law from-to s p a q e
 
   -- a set that is read is one that the writer takes, and is as it is inferred
-  pub aps-sound : (a : VvcAps) (q : ℕ) → aps .read s p ≡ value a q → (p ≤ q) × (aps .ok a ≡ true) × (inferred a ≡ a)
+  pub aps-sound : (a : VvcAps) (q : ℕ) → aps .read s p ≡ value a q → (aps .ok a ≡ true) × (inferred a ≡ a)
   unfolding aps via
   aps-sound a q e =
       let (ex, f) = aps-value a q e in
-      let (l, o) = apsSyntax-law .sound s p (fromAps a) q ex in
-      (l, rw o, f)
+      (rw (apsSyntax-law .sound s p (fromAps a) q ex), f)
 
-  -- a set that is read before the end stands there as it is written
-  pub aps-exact : (a : VvcAps) (q : ℕ) → aps .read s p ≡ value a q → q < length s * 8 → Holds s p (aps .emit a) × (q ≡ p + length (aps .emit a))
+  -- and stands there as it is written
+  pub aps-exact : (a : VvcAps) (q : ℕ) → aps .read s p ≡ value a q → Holds s p (aps .emit a) × (q ≡ p + length (aps .emit a))
   unfolding aps via
-  aps-exact a q e h = apsSyntax-law .exact s p (fromAps a) q (aps-value a q e .0) h
+  aps-exact a q e = apsSyntax-law .exact s p (fromAps a) q (aps-value a q e .0)
 
   -- a set that is written is read where it stands, with what is not sent as it is inferred
   pub aps-back : (a : VvcAps) → aps .ok a ≡ true → Holds s p (aps .emit a)

@@ -1,15 +1,15 @@
 -- Each combinator keeps the laws: what is composed of them is lawful by the same composition.
 use mathlib.Core.Path.{_≡_, refl, sym, ap, _∙_}
 use mathlib.Core.Bool.{Bool, true, false, cond, _&&_}
-use mathlib.Core.List.{List, []}
-use Prim.Native.Nat.{ℕ, _+_, _*_, _≤_, _<_}
+use mathlib.Core.List.{List, [], _∷_}
+use Prim.Native.Nat.{ℕ, _+_, _*_, _≤_}
 use native.Mathlib.Nat.{add-zero, add-assoc}
 use native.Mathlib.Omega.{arith}
 use lib.ListN.{length, length-append}
 use Rattle.bitstream.specs.Outcome.{Outcome, value, refused, _then_}
 use Rattle.bitstream.specs.Bits.{Holds, AreBits}
 use Rattle.bitstream.proofs.CodeLaws.{value-refused}
-use Rattle.bitstream.proofs.HoldLaws.{bits-append, holds-append, holds-join}
+use Rattle.bitstream.proofs.HoldLaws.{bits-append, holds-append, holds-join, holds-end}
 use Rattle.aps.specs.Codec.{Codec, _▷_, via, judged, Inferred, when, provided, never}
 use Rattle.aps.proofs.Lawful.{Lawful, IsInferred}
 
@@ -46,6 +46,19 @@ pub bits-none : AreBits []
 unfolding AreBits
 bits-none = tt
 
+-- ---- what is read ends inside the input
+
+-- bits that stand from inside the input on end inside it
+pub holds-inside : (s : List ℕ) (p : ℕ) (bs : List ℕ) → Holds s p bs → p ≤ length s * 8 → p + length bs ≤ length s * 8
+holds-inside s p [] h l = omega arith
+holds-inside s p (b ∷ bs) h l = holds-end s p b bs h
+
+-- what is read from there on ends inside it
+pub inside : {A : Type 0} {c : Codec A} {m : ℕ} → Lawful c m → (s : List ℕ) (p : ℕ) (a : A) (q : ℕ) → c .read s p ≡ value a q → p ≤ length s * 8 → q ≤ length s * 8
+inside {c = c} C s p a q e l =
+    let (h, n) = C .exact s p a q e in
+    omega (arith, holds-inside s p (c .emit a) h l)
+
 -- ---- c, then what its value says
 
 module _ {A B : Type 0} where
@@ -70,22 +83,13 @@ module _ {A B : Type 0} where
     unfolding _▷_
     ▷-halves x q e = both-value (c .read s p) (λ a q. (k a) .read s q) x q e
 
-    -- one read after the other is both read
-    pub ▷-joined : (a : A) (r : ℕ) (b : B) (q : ℕ) → c .read s p ≡ value a r → (k a) .read s r ≡ value b q → (c ▷ k) .read s p ≡ value (a, b) q
-    unfolding _▷_
-    ▷-joined a r b q e f = rw (e, f)
-
   -- one after the other: the bits add up
   pub ▷-law : {c : Codec A} {k : A → Codec B} {m m′ : ℕ} → Lawful c m → ((a : A) → c .ok a ≡ true → Lawful (k a) m′) → Lawful (c ▷ k) (m + m′)
   unfolding _▷_
   ▷-law {c} {k} {m} {m′} C K =
       record {
         sound = λ s p x q e. sound s p x q e;
-        short = λ s p x q e.
-            let (r, ea, eb) = ▷-halves c k s p x q e in
-            let oa = C .sound s p (x .0) r ea .1 in
-            omega (arith, C .short s p (x .0) r ea, (K (x .0) oa) .short s r (x .1) q eb, length-append (c .emit (x .0)) ((k (x .0)) .emit (x .1)));
-        exact = λ s p x q e h. exact s p x q e h;
+        exact = λ s p x q e. exact s p x q e;
         back = λ s p x o h. back s p x o h;
         bits = λ x o.
             let oa = and-left (c .ok (x .0)) ((k (x .0)) .ok (x .1)) o in
@@ -97,21 +101,17 @@ module _ {A B : Type 0} where
             omega (arith, length-append (c .emit (x .0)) ((k (x .0)) .emit (x .1)), C .most (x .0) oa, (K (x .0) oa) .most (x .1) ob);
       }
     where
-      sound : (s : List ℕ) (p : ℕ) (x : A × B) (q : ℕ) → (c ▷ k) .read s p ≡ value x q → (p ≤ q) × ((c ▷ k) .ok x ≡ true)
+      sound : (s : List ℕ) (p : ℕ) (x : A × B) (q : ℕ) → (c ▷ k) .read s p ≡ value x q → (c ▷ k) .ok x ≡ true
       sound s p x q e =
           let (r, ea, eb) = ▷-halves c k s p x q e in
-          let (l, oa) = C .sound s p (x .0) r ea in
-          let (l′, ob) = (K (x .0) oa) .sound s r (x .1) q eb in
-          (omega arith, and-both _ _ oa ob)
+          let oa = C .sound s p (x .0) r ea in
+          and-both _ _ oa ((K (x .0) oa) .sound s r (x .1) q eb)
 
-      exact : (s : List ℕ) (p : ℕ) (x : A × B) (q : ℕ) → (c ▷ k) .read s p ≡ value x q → q < length s * 8
-          → Holds s p ((c ▷ k) .emit x) × (q ≡ p + length ((c ▷ k) .emit x))
-      exact s p x q e h =
+      exact : (s : List ℕ) (p : ℕ) (x : A × B) (q : ℕ) → (c ▷ k) .read s p ≡ value x q → Holds s p ((c ▷ k) .emit x) × (q ≡ p + length ((c ▷ k) .emit x))
+      exact s p x q e =
           let (r, ea, eb) = ▷-halves c k s p x q e in
-          let (l, oa) = C .sound s p (x .0) r ea in
-          let (l′, ob) = (K (x .0) oa) .sound s r (x .1) q eb in
-          let (ha, na) = C .exact s p (x .0) r ea (omega arith) in
-          let (hb, nb) = (K (x .0) oa) .exact s r (x .1) q eb h in
+          let (ha, na) = C .exact s p (x .0) r ea in
+          let (hb, nb) = (K (x .0) (C .sound s p (x .0) r ea)) .exact s r (x .1) q eb in
           let xs = c .emit (x .0) in
           let ys = (k (x .0)) .emit (x .1) in
           (holds-join s p xs ys ha (rw na at hb), omega (arith, length-append xs ys))
@@ -145,10 +145,8 @@ module _ {A : Type 0} where
       record {
         sound = λ s p a q e.
             let (ea, et) = judged-value (c .read s p) test a q e in
-            let (l, o) = C .sound s p a q ea in
-            (l, and-both _ _ o et);
-        short = λ s p a q e. C .short s p a q (judged-value (c .read s p) test a q e .0);
-        exact = λ s p a q e h. C .exact s p a q (judged-value (c .read s p) test a q e .0) h;
+            and-both _ _ (C .sound s p a q ea) et;
+        exact = λ s p a q e. C .exact s p a q (judged-value (c .read s p) test a q e .0);
         back = λ s p a o h. rw (C .back s p a (and-left (c .ok a) (test a) o) h, and-right (c .ok a) (test a) o);
         bits = λ a o. C .bits a (and-left (c .ok a) (test a) o);
         most = λ a o. C .most a (and-left (c .ok a) (test a) o);
@@ -158,15 +156,11 @@ module _ {A : Type 0} where
   pub when-law : (b : Bool) {d : Inferred A} {c : Codec A} {m : ℕ} → IsInferred d → (b ≡ true → Lawful c m) → Lawful (when b d c) m
   unfolding when
   when-law true D C =
-      let C′ = C refl in record { sound = C′ .sound; short = C′ .short; exact = C′ .exact; back = C′ .back; bits = C′ .bits; most = C′ .most }
+      let C′ = C refl in record { sound = C′ .sound; exact = C′ .exact; back = C′ .back; bits = C′ .bits; most = C′ .most }
   when-law false {d} {c} {m} D C =
       record {
-        sound = λ s p a q e.
-            let ea : d .default ≡ a = cc in
-            let eq : p ≡ q = cc in
-            (omega arith, rw (← ea) (D .itself));
-        short = λ s p a q e. let eq : p ≡ q = cc in omega arith;
-        exact = λ s p a q e h. let eq : p ≡ q = cc in (holds-none s p, omega arith);
+        sound = λ s p a q e. let ea : d .default ≡ a = cc in rw (← ea) (D .itself);
+        exact = λ s p a q e. let eq : p ≡ q = cc in (holds-none s p, omega arith);
         back = λ s p a o h. rw (D .only a o, add-zero p);
         bits = λ a o. bits-none;
         most = λ a o. omega arith;
@@ -183,8 +177,7 @@ module _ {A : Type 0} where
   never-law n =
       record {
         sound = λ s p a q e. absurd (value-refused (sym e));
-        short = λ s p a q e. absurd (value-refused (sym e));
-        exact = λ s p a q e h. absurd (value-refused (sym e));
+        exact = λ s p a q e. absurd (value-refused (sym e));
         back = λ s p a o h. never-true o;
         bits = λ a o. bits-none;
         most = λ a o. never-true o;
@@ -193,12 +186,11 @@ module _ {A : Type 0} where
   -- all or nothing is read and taken
   pub provided-law : (b : Bool) {c : Codec A} {m : ℕ} → Lawful c m → Lawful (provided b c) m
   unfolding provided
-  provided-law true C = record { sound = C .sound; short = C .short; exact = C .exact; back = C .back; bits = C .bits; most = C .most }
+  provided-law true C = record { sound = C .sound; exact = C .exact; back = C .back; bits = C .bits; most = C .most }
   provided-law false C =
       record {
         sound = λ s p a q e. absurd (value-refused (sym e));
-        short = λ s p a q e. absurd (value-refused (sym e));
-        exact = λ s p a q e h. absurd (value-refused (sym e));
+        exact = λ s p a q e. absurd (value-refused (sym e));
         back = λ s p a o h. never-true o;
         bits = λ a o. never-true o;
         most = λ a o. never-true o;
@@ -206,7 +198,7 @@ module _ {A : Type 0} where
 
   -- another bound
   pub bound-law : {c : Codec A} {m : ℕ} (b : ℕ) → ((a : A) → c .ok a ≡ true → length (c .emit a) ≤ b) → Lawful c m → Lawful c b
-  bound-law b h C = record { sound = C .sound; short = C .short; exact = C .exact; back = C .back; bits = C .bits; most = h }
+  bound-law b h C = record { sound = C .sound; exact = C .exact; back = C .back; bits = C .bits; most = h }
 
   -- a larger bound
   pub most-law : {c : Codec A} {m m′ : ℕ} → m ≤ m′ → Lawful c m → Lawful c m′
@@ -223,7 +215,7 @@ module _ {A B : Type 0} (to : A → B) (from : B → A) (test : B → Bool) {c :
       let (a, r, ea, e₁) = then-value (c .read s p) (λ a q. value (to a) q) e in
       let er : r ≡ q = cc in
       let eb : to a ≡ b = cc in
-      let f : from b ≡ a = ap from (sym eb) ∙ there a (C .sound s p a r ea .1) in
+      let f : from b ≡ a = ap from (sym eb) ∙ there a (C .sound s p a r ea) in
       (cc, ap to f ∙ eb)
 
   -- values that are had back both ways
@@ -235,10 +227,9 @@ module _ {A B : Type 0} (to : A → B) (from : B → A) (test : B → Bool) {c :
       record {
         sound = λ s p b q e.
             let (ea, eb) = shaped s p b q e in
-            let (l, o) = C .sound s p (from b) q ea in
-            (l, and-both (c .ok (from b)) (test b) o (rw eb at (there (from b) o .1)));
-        short = λ s p b q e. C .short s p (from b) q (shaped s p b q e .0);
-        exact = λ s p b q e h. C .exact s p (from b) q (shaped s p b q e .0) h;
+            let o = C .sound s p (from b) q ea in
+            and-both (c .ok (from b)) (test b) o (rw eb at (there (from b) o .1));
+        exact = λ s p b q e. C .exact s p (from b) q (shaped s p b q e .0);
         back = λ s p b o h.
             let ob = and-left (c .ok (from b)) (test b) o in
             rw (C .back s p (from b) ob h, back b ob (and-right (c .ok (from b)) (test b) o));

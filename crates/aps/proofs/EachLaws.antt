@@ -61,18 +61,11 @@ module _ {A : Type 0} (c : Codec A) (cs : Codec (List A)) where
         record {
           sound = λ s p l q e.
               let (x, xs, r, el, ea, eb) = cons-value s p l q e in
-              let (n, oa) = C .sound s p x r ea in
-              let (n′, ob) = CS .sound s r xs q eb in
-              (omega arith, rw el (and-both _ _ oa ob));
-          short = λ s p l q e.
+              rw el (and-both _ _ (C .sound s p x r ea) (CS .sound s r xs q eb));
+          exact = λ s p l q e.
               let (x, xs, r, el, ea, eb) = cons-value s p l q e in
-              rw el (omega (arith, C .short s p x r ea, CS .short s r xs q eb, length-append (c .emit x) (cs .emit xs)));
-          exact = λ s p l q e h.
-              let (x, xs, r, el, ea, eb) = cons-value s p l q e in
-              let (n, oa) = C .sound s p x r ea in
-              let (n′, ob) = CS .sound s r xs q eb in
-              let (ha, na) = C .exact s p x r ea (omega arith) in
-              let (hb, nb) = CS .exact s r xs q eb h in
+              let (ha, na) = C .exact s p x r ea in
+              let (hb, nb) = CS .exact s r xs q eb in
               rw el (holds-join s p (c .emit x) (cs .emit xs) ha (rw na at hb), omega (arith, length-append (c .emit x) (cs .emit xs)));
           back = cons-back;
           bits = cons-bits;
@@ -87,9 +80,8 @@ module _ {A : Type 0} where
   unfolding eachFrom
   each-law i zero {k} {m} K =
       record {
-        sound = λ s p a q e. let ea : [] ≡ a = cc in let eq : p ≡ q = cc in (omega arith, rw (← ea));
-        short = λ s p a q e. let eq : p ≡ q = cc in omega arith;
-        exact = λ s p a q e h. let eq : p ≡ q = cc in (holds-none s p, omega arith);
+        sound = λ s p a q e. let ea : [] ≡ a = cc in rw (← ea);
+        exact = λ s p a q e. let eq : p ≡ q = cc in (holds-none s p, omega arith);
         back = λ s p a o h. rw add-zero (nil a p o);
         bits = λ a o. bits-none;
         most = λ a o. omega arith;

@@ -2,19 +2,17 @@
 use mathlib.Core.Path.{_≡_}
 use mathlib.Core.Bool.{true}
 use mathlib.Core.List.{List}
-use Prim.Native.Nat.{ℕ, zero, suc, _+_, _*_, _≤_, _<_}
+use Prim.Native.Nat.{ℕ, zero, suc, _+_, _≤_}
 use lib.ListN.{length}
 use Rattle.bitstream.specs.Outcome.{value}
 use Rattle.bitstream.specs.Bits.{Holds, AreBits}
 use Rattle.aps.specs.Codec.{Codec, Inferred}
 
 pub record Lawful {A : Type 0} (c : Codec A) (m : ℕ) : Type 0 where
-  -- what is read, even past the end, is a value that the writer takes, and reading does not go back
-  pub sound : (s : List ℕ) (p : ℕ) (a : A) (q : ℕ) → c .read s p ≡ value a q → (p ≤ q) × (c .ok a ≡ true)
-  -- even past the end no more bits are read than are written for the value
-  pub short : (s : List ℕ) (p : ℕ) (a : A) (q : ℕ) → c .read s p ≡ value a q → q ≤ p + length (c .emit a)
-  -- what is read before the end stands there as it is written
-  pub exact : (s : List ℕ) (p : ℕ) (a : A) (q : ℕ) → c .read s p ≡ value a q → q < length s * 8 → Holds s p (c .emit a) × (q ≡ p + length (c .emit a))
+  -- what is read is a value that the writer takes
+  pub sound : (s : List ℕ) (p : ℕ) (a : A) (q : ℕ) → c .read s p ≡ value a q → c .ok a ≡ true
+  -- and stands there as it is written
+  pub exact : (s : List ℕ) (p : ℕ) (a : A) (q : ℕ) → c .read s p ≡ value a q → Holds s p (c .emit a) × (q ≡ p + length (c .emit a))
   -- what is written is read where it stands
   pub back : (s : List ℕ) (p : ℕ) (a : A) → c .ok a ≡ true → Holds s p (c .emit a) → c .read s p ≡ value a (p + length (c .emit a))
   -- what is written is bits

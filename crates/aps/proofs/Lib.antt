@@ -10,7 +10,6 @@ pub mod ScalingLaws
 pub mod KeepLaws
 pub mod ApsLaws
 pub mod PackLaws
-pub mod ExtensionLaws
 pub mod RbspLaws
 pub mod LocalLaws
 pub mod Answers

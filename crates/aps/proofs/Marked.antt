@@ -8,9 +8,9 @@ use lib.IntN.{pos}
 use lib.ListN.{replicate}
 use Rattle.bitstream.specs.Outcome.{Outcome, value, refused}
 use Rattle.bitstream.specs.Bits.{bitAt, fieldAt, fieldBits, putInByte, putBit, putBits, pack}
-use Rattle.bitstream.specs.Fields.{readU, zeroAt, zerosAt, suffixAt, ueValue, ueFrom, readUe, ueZeros, ueBits, seValue, seCode, trailingValue, trailingWidth, trailingBits, readTrailing}
+use Rattle.bitstream.specs.Fields.{readU, lacks, zeroAt, zerosAt, suffixAt, ueValue, ueFrom, readUe, ueAsked, ueZeros, ueBits, seValue, seCode, trailingValue, trailingWidth, trailingBits, readTrailing}
 use Rattle.bitstream.specs.Escapes.{escapeFrom, unescapeFrom, putBytes, ebspToRbsp, rbspToEbsp}
-use Rattle.aps.specs.Codec.{u, ue, _▷_, via, judged, when, eachFrom, provided, never}
+use Rattle.aps.specs.Codec.{whole, u, ue, _▷_, via, judged, when, eachFrom, provided, never}
 use Rattle.aps.specs.Elements.{flag, ueTo, se, seIn, signed, apart, flat}
 use Rattle.aps.specs.LmcsSyntax.{inRange, lmcsSyntax, toLmcs, fromLmcs, lmcs}
 use Rattle.aps.specs.AlfSyntax.{ceilLog2, coefficient, lumaSyntax, toLuma, fromLuma, luma, alternative, chromaSyntax, toChroma, fromChroma, chroma, ccSyntax, toCc, fromCc, cc, alfSyntax, toAlf, fromAlf, alf}
@@ -94,7 +94,7 @@ computed (unescapes s out o) = unescapes s out (ebspToRbsp s out)
 abbrev pub four : List ℕ
 four = 0xAA ∷ 0xAA ∷ 0xAA ∷ 0xAA ∷ []
 
--- document 01, 'Marked bytes', with some more that are written and escaped
+-- document 01, 'Marked bytes', missing bits as document 02's request 6 has them, with some more that are short, written and escaped
 unfoldable pub rows : List Row
 rows =
     reads [] (refused 1)
@@ -103,12 +103,19 @@ rows =
     ∷ reads (0x00 ∷ 0x20 ∷ []) (value (noAlf false true) 11)
     ∷ reads (0x00 ∷ 0x10 ∷ 0xFF ∷ []) (value (noAlf false false) 16)
     ∷ reads (0x00 ∷ 0x00 ∷ []) (refused 2)
-    ∷ reads (0x08 ∷ []) (refused 2)
+    ∷ reads (0x08 ∷ []) (refused 1)
+    ∷ reads (0x08 ∷ 0x54 ∷ []) (refused 1)
+    ∷ reads (0x08 ∷ 0x5F ∷ 0xFF ∷ []) (refused 2)
     ∷ reads (0x20 ∷ []) (refused 1)
+    ∷ reads (0x20 ∷ 0x00 ∷ 0x80 ∷ []) (refused 1)
+    ∷ reads (0x20 ∷ 0x00 ∷ 0x00 ∷ 0x00 ∷ 0x00 ∷ []) (refused 1)
+    ∷ reads (0x20 ∷ 0x00 ∷ 0x00 ∷ 0x00 ∷ 0x00 ∷ 0x00 ∷ []) (refused 2)
     ∷ reads (0x20 ∷ 0x42 ∷ 0x12 ∷ []) (value oneBin 24)
-    ∷ reads (0x24 ∷ []) (refused 2)
+    ∷ reads (0x24 ∷ []) (refused 1)
+    ∷ reads (0x24 ∷ 0x00 ∷ []) (refused 2)
     ∷ reads (0x40 ∷ 0x7F ∷ 0xFF ∷ 0xE8 ∷ []) (value copies 32)
-    ∷ reads (0x60 ∷ []) (refused 3)
+    ∷ reads (0x60 ∷ []) (refused 1)
+    ∷ reads (0x60 ∷ 0x00 ∷ []) (refused 3)
     ∷ writes (noAlf false true) (0xAA ∷ 0xAA ∷ []) (refused 3)
     ∷ writes (noAlf false false) (0xAA ∷ []) (refused 5)
     ∷ writes (noAlf false false) (0xAA ∷ 0xAA ∷ 0xAA ∷ []) (value (0x00 ∷ 0x10 ∷ 0xAA ∷ []) 2)
@@ -125,5 +132,5 @@ rows =
 
 -- each row is as the definitions give it
 pub marked-rows : map computed rows ≡ rows
-unfolding rows bitAt fieldAt fieldBits putInByte putBit putBits pack readU zeroAt zerosAt suffixAt ueValue ueFrom readUe ueZeros ueBits seValue seCode trailingValue trailingWidth trailingBits readTrailing escapeFrom unescapeFrom putBytes ebspToRbsp rbspToEbsp leadingZeros u ue _▷_ via judged when eachFrom provided never flag ueTo se seIn signed apart flat inRange lmcsSyntax toLmcs fromLmcs lmcs ceilLog2 coefficient lumaSyntax toLuma fromLuma luma alternative chromaSyntax toChroma fromChroma chroma ccSyntax toCc fromCc cc alfSyntax toAlf fromAlf alf diagNext diagScan skipped matrixSize entries maxIdDelta idCoded step sums coefficients entrySyntax scalingSyntax filled keep looked look zeroAlf zeroLmcs zeroScaling payload apsSyntax toAps fromAps aps closed readRbsp parseApsRbsp rbspBits rbspBytes bytesDue writeAps
+unfolding rows bitAt fieldAt fieldBits putInByte putBit putBits pack readU lacks zeroAt zerosAt suffixAt ueValue ueFrom readUe ueAsked ueZeros ueBits seValue seCode trailingValue trailingWidth trailingBits readTrailing escapeFrom unescapeFrom putBytes ebspToRbsp rbspToEbsp leadingZeros whole u ue _▷_ via judged when eachFrom provided never flag ueTo se seIn signed apart flat inRange lmcsSyntax toLmcs fromLmcs lmcs ceilLog2 coefficient lumaSyntax toLuma fromLuma luma alternative chromaSyntax toChroma fromChroma chroma ccSyntax toCc fromCc cc alfSyntax toAlf fromAlf alf diagNext diagScan skipped matrixSize entries maxIdDelta idCoded step sums coefficients entrySyntax scalingSyntax filled keep looked look zeroAlf zeroLmcs zeroScaling payload apsSyntax toAps fromAps aps closed readRbsp parseApsRbsp rbspBits rbspBytes bytesDue writeAps
 marked-rows = refl

@@ -1,7 +1,7 @@
 -- Demand 2 at this level: an RBSP that is read is written as it was, and a set that is written is read back.
 use mathlib.Core.Path.{_≡_, refl, sym, ap, _∙_}
 use mathlib.Core.Bool.{Bool, true, false, cond}
-use mathlib.Core.List.{List, [], _∷_, _++_}
+use mathlib.Core.List.{List, _++_}
 use Prim.Native.Nat.{ℕ, suc, _+_, _*_, _-_, _/_, _%_, _^_, _≤_, _<_}
 use native.Mathlib.Nat.{zero-add, zero-div}
 use native.Mathlib.Omega.{arith}
@@ -10,10 +10,9 @@ use Rattle.bitstream.specs.Outcome.{Outcome, value, refused, _then_}
 use Rattle.bitstream.specs.Bits.{bitAt, Holds, AreBits}
 use Rattle.bitstream.specs.Fields.{readTrailing, trailingBits}
 use Rattle.bitstream.proofs.CodeLaws.{value-refused}
-use Rattle.bitstream.proofs.CallLaws.{trailing-value}
 use Rattle.bitstream.proofs.WriteLaws.{length-trailing}
 use Rattle.bitstream.proofs.KeepLaws.{Bytes}
-use Rattle.bitstream.proofs.HoldLaws.{bits-append, bits-trailing, holds-append, holds-join, holds-first, holds-end, holds-same}
+use Rattle.bitstream.proofs.HoldLaws.{bits-append, bits-trailing, holds-append, holds-join, holds-first, holds-same}
 use Rattle.bitstream.proofs.RoundTrip.{trailing-holds, trailing-exact}
 use Rattle.bitstream.proofs.LocalLaws.{same-append}
 use Rattle.bitstream.proofs.PackLaws.{length-pack}
@@ -22,9 +21,8 @@ use Rattle.aps.specs.ApsSyntax.{numberOf, aps, inferred}
 use Rattle.aps.specs.Rbsp.{closed, readRbsp, rbspBits, rbspBytes}
 use Rattle.aps.specs.declared.aps.ApsKind.{ApsKind}
 use Rattle.aps.specs.declared.aps.VvcAps.{VvcAps}
-use Rattle.aps.proofs.CodecLaws.{then-value}
+use Rattle.aps.proofs.CodecLaws.{then-value, holds-inside}
 use Rattle.aps.proofs.ApsLaws.{payloadBits, aps-sound, aps-exact, aps-back, aps-bits, aps-most, aps-id, inferred-flag}
-use Rattle.aps.proofs.ExtensionLaws.{aps-whole}
 use Rattle.aps.proofs.PackLaws.{pack-holds, pack-is}
 
 -- ---- how a set is closed
@@ -77,8 +75,7 @@ module _ (s : List ℕ) where
   pub rbsp-sound : (a : VvcAps) (q : ℕ) → readRbsp s ≡ value a q → (aps .ok a ≡ true) × (inferred a ≡ a)
   rbsp-sound a q e =
       let (r, ea, ec) = rbsp-value a q e in
-      let (l, o, f) = aps-sound s 0 a r ea in
-      (o, f)
+      aps-sound s 0 a r ea
 
   -- a set that is read has an id of its kind
   pub rbsp-id : (a : VvcAps) (q : ℕ) → readRbsp s ≡ value a q → a .«aps_adaptation_parameter_set_id» ≤ largestId (numberOf (a .kind))
@@ -120,7 +117,7 @@ module _ (s : List ℕ) (a : VvcAps) where
   unfolding rbspBits
   plain-stands q r ea et =
       let l = length (aps .emit a) in
-      let (h, n) = aps-exact s 0 a r ea (trailing-value s r (sym et) .0) in
+      let (h, n) = aps-exact s 0 a r ea in
       let (k, m) = trailing-exact s r (sym et) in
       let z : 0 + l ≡ l = zero-add l in
       let f : r ≡ l = n ∙ z in
@@ -132,7 +129,7 @@ module _ (s : List ℕ) (a : VvcAps) where
     where
       go : (b : Bool) → a .«aps_extension_flag» ≡ b → Holds s 0 (setBits a) × (q ≡ length (setBits a))
       go true x =
-          let (h, n) = aps-whole s 0 a x q (rbsp-extended s a q e x) in
+          let (h, n) = aps-exact s 0 a q (rbsp-extended s a q e x) in
           rw (bits-extended a x) (h, n ∙ zero-add _)
       go false x =
           let (r, ea, et) = rbsp-plain s a q e x in
@@ -161,16 +158,12 @@ module _ (s : List ℕ) (a : VvcAps) where
 
 -- ---- its bytes
 
-holds-inside : (s bs : List ℕ) → Holds s 0 bs → length bs ≤ length s * 8
-holds-inside s [] h = omega arith
-holds-inside s (b ∷ bs) h = omega (arith, holds-end s 0 b bs h)
-
 module _ (s : List ℕ) (a : VvcAps) (q : ℕ) (e : readRbsp s ≡ value a q) where
   -- reading ends inside the input
   pub rbsp-end : q ≤ length s * 8
   rbsp-end =
       let (h, n) = read-stands s a q e in
-      omega (arith, holds-inside s (setBits a) h)
+      omega (arith, holds-inside s 0 (setBits a) h (omega arith))
 
   -- read, then written: the bytes that were read
   pub read-write : a .«aps_extension_flag» ≡ false → Bytes s → rbspBytes a ≡ take (q / 8) s

@@ -6,9 +6,9 @@ use Prim.Native.Nat.{ℕ}
 use lib.Count.{leadingZeros}
 use Rattle.bitstream.specs.Outcome.{Outcome, value, refused}
 use Rattle.bitstream.specs.Bits.{bitAt, fieldAt, fieldBits, putInByte, putBit, putBits, pack}
-use Rattle.bitstream.specs.Fields.{readU, zeroAt, zerosAt, suffixAt, ueValue, ueFrom, readUe, ueZeros, ueBits, seValue, seCode, trailingValue, trailingWidth, trailingBits, readTrailing}
+use Rattle.bitstream.specs.Fields.{readU, lacks, zeroAt, zerosAt, suffixAt, ueValue, ueFrom, readUe, ueAsked, ueZeros, ueBits, seValue, seCode, trailingValue, trailingWidth, trailingBits, readTrailing}
 use Rattle.bitstream.specs.Escapes.{escapeFrom, unescapeFrom, putBytes}
-use Rattle.aps.specs.Codec.{u, ue, _▷_, via, judged, when, eachFrom, provided, never}
+use Rattle.aps.specs.Codec.{whole, u, ue, _▷_, via, judged, when, eachFrom, provided, never}
 use Rattle.aps.specs.Elements.{flag, ueTo, se, seIn, signed, apart, flat}
 use Rattle.aps.specs.LmcsSyntax.{inRange, lmcsSyntax, toLmcs, fromLmcs, lmcs}
 use Rattle.aps.specs.AlfSyntax.{ceilLog2, coefficient, lumaSyntax, toLuma, fromLuma, luma, alternative, chromaSyntax, toChroma, fromChroma, chroma, ccSyntax, toCc, fromCc, cc, alfSyntax, toAlf, fromAlf, alf}
@@ -65,7 +65,8 @@ rows =
     ∷ answers (alone (0x00 ∷ 0x91 ∷ 0x00 ∷ 0x10 ∷ []) 1) (refusal 5)
     ∷ answers (alone (0x00 ∷ 0x09 ∷ 0x00 ∷ 0x10 ∷ []) 0) passed
     ∷ answers (alone (0x00 ∷ []) 0) (refusal 1)
-    ∷ answers (alone (0x00 ∷ 0x89 ∷ 0x24 ∷ []) 1) (refusal 2)
+    ∷ answers (alone (0x00 ∷ 0x89 ∷ 0x24 ∷ []) 1) (refusal 1)
+    ∷ answers (alone (0x00 ∷ 0x89 ∷ 0x24 ∷ 0x00 ∷ []) 2) (refusal 2)
     ∷ lists [] (value [] 0)
     ∷ lists (stream example 17 ∷ []) (value exampleList 17)
     ∷ lists (alone (0x00 ∷ 0x89 ∷ 0x00 ∷ 0x20 ∷ []) 2 ∷ []) (refused 3)
@@ -74,5 +75,5 @@ rows =
 
 -- each row is as the definitions give it
 pub example-rows : map computed rows ≡ rows
-unfolding rows bitAt fieldAt fieldBits putInByte putBit putBits pack readU zeroAt zerosAt suffixAt ueValue ueFrom readUe ueZeros ueBits seValue seCode trailingValue trailingWidth trailingBits readTrailing escapeFrom unescapeFrom putBytes leadingZeros u ue _▷_ via judged when eachFrom provided never flag ueTo se seIn signed apart flat inRange lmcsSyntax toLmcs fromLmcs lmcs ceilLog2 coefficient lumaSyntax toLuma fromLuma luma alternative chromaSyntax toChroma fromChroma chroma ccSyntax toCc fromCc cc alfSyntax toAlf fromAlf alf diagNext diagScan skipped entries maxIdDelta idCoded step sums coefficients entrySyntax scalingSyntax filled keep looked look zeroAlf zeroLmcs zeroScaling payload apsSyntax toAps fromAps aps closed readRbsp rbspBits rbspBytes bytesDue gap isPassed verdict admitted parseAps tally unitsTaken kindIn idIn extended noteUnits enters entryDue unitOf listed anyExtended listDue
+unfolding rows bitAt fieldAt fieldBits putInByte putBit putBits pack readU lacks zeroAt zerosAt suffixAt ueValue ueFrom readUe ueAsked ueZeros ueBits seValue seCode trailingValue trailingWidth trailingBits readTrailing escapeFrom unescapeFrom putBytes leadingZeros whole u ue _▷_ via judged when eachFrom provided never flag ueTo se seIn signed apart flat inRange lmcsSyntax toLmcs fromLmcs lmcs ceilLog2 coefficient lumaSyntax toLuma fromLuma luma alternative chromaSyntax toChroma fromChroma chroma ccSyntax toCc fromCc cc alfSyntax toAlf fromAlf alf diagNext diagScan skipped entries maxIdDelta idCoded step sums coefficients entrySyntax scalingSyntax filled keep looked look zeroAlf zeroLmcs zeroScaling payload apsSyntax toAps fromAps aps closed readRbsp rbspBits rbspBytes bytesDue gap isPassed verdict admitted parseAps tally unitsTaken kindIn idIn extended noteUnits enters entryDue unitOf listed anyExtended listDue
 example-rows = refl
