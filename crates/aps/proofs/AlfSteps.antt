@@ -21,7 +21,12 @@ use Rattle.aps.specs.declared.alf.VvcAlfChroma.{VvcAlfChroma}
 use Rattle.aps.specs.declared.alf.VvcAlfCcFilters.{VvcAlfCcFilters}
 use Rattle.aps.specs.declared.alf.VvcAlfData.{VvcAlfData}
 use Rattle.aps.specs.AlfSyntax as Alf
-use Rattle.aps.proofs.EachLaws.{each-same}
+use Rattle.aps.proofs.Lawful.{Lawful, total}
+use Rattle.aps.proofs.FieldLaws.{u-law}
+use Rattle.aps.proofs.CodecLaws.{judged-law, when-law}
+use Rattle.aps.proofs.EachLaws.{each-law, each-same}
+use Rattle.aps.proofs.ElementLaws.{noNumber-is, noSigned-is, apart-law}
+use Rattle.aps.proofs.AlfLaws.{coefficient-law}
 use Rattle.aps.proofs.FieldSteps.{none-lacking, lacks-part, u-here, u-lacking, flag-read, flag-here, flag-lacking, run-lacking, ueTo-read}
 use Rattle.aps.proofs.Steps.{judged-read, when-read, Reading, reading-start, Reading2, reading2-start}
 
@@ -73,6 +78,13 @@ reading2-from k N v w s p a b e f = rw (e, f) (reading2-start k N v w s p)
 -- an index is sent where there is more than one filter
 abbrev pub index : ℕ → Codec ℕ
 index count-1 = when (ltb 0 count-1) noNumber (judged (λ x. leb x count-1) (u (ceilLog2 (count-1 + 1))))
+
+pub index-law : (count-1 : ℕ) → Lawful (index count-1) (ceilLog2 (count-1 + 1))
+index-law count-1 = when-law (ltb 0 count-1) noNumber-is λ s. judged-law (λ x. leb x count-1) (u-law (ceilLog2 (count-1 + 1)))
+
+-- coefficients, the first n of N sent
+pub first-coefficients : (N n : ℕ) → Lawful (apart (each N λ i. when (ltb i n) noSigned coefficient)) (total 0 N (λ i. 16))
+first-coefficients N n = apart-law (each-law 0 N λ i b. when-law (ltb i n) noSigned-is λ s. coefficient-law)
 
 module _ (count-1 : ℕ) (s : List ℕ) (q bits : ℕ) (width : bits ≡ ceilLog2 (count-1 + 1)) (some : 0 < count-1) where
   pub index-lacking : lacks s q bits ≡ true → (index count-1) .read s q ≡ refused 1

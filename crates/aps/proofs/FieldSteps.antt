@@ -5,7 +5,7 @@ use mathlib.Core.List.{List, _∷_}
 use Prim.Native.Nat.{ℕ, zero, suc, _+_, _*_, _^_, _≤_, _<_}
 use native.Mathlib.Nat.{mul-suc}
 use native.Mathlib.Omega.{arith}
-use borrow.Author.Tests.{ltb-true, ltb-false, lt-ltb, le-ltb}
+use borrow.Author.Tests.{ltb-true, lt-ltb}
 use lib.Dec.{ltb, eqb, leb}
 use lib.ListN.{length}
 use Rattle.bitstream.specs.Outcome.{Outcome, value, refused, mapOutcome, _then_}
@@ -17,15 +17,12 @@ use Rattle.bitstream.proofs.CallLaws.{ue-in, se-lacks}
 use Rattle.bitstream.proofs.CallLaws as Call
 use Rattle.aps.specs.Codec.{Codec, whole, u, ue, _▷_, via, judged, when, eachFrom}
 use Rattle.aps.specs.Elements.{flag, ueTo, se, signed}
+use Rattle.aps.proofs.FieldLaws.{lacks-none, lacks-inside}
 use Rattle.aps.proofs.Gives.{Gives, given}
 
 -- ---- bits that are there, and bits that are lacking
 
 module _ (s : List ℕ) (p n : ℕ) where
-  lacks-false : lacks s p n ≡ false → 0 < n → p + n ≤ length s * 8
-  unfolding lacks
-  lacks-false e h = ltb-false _ _ (rw (lt-ltb 0 n h) at e)
-
   lacks-true : lacks s p n ≡ true → (0 < n) × (length s * 8 < p + n)
   unfolding lacks
   lacks-true e = go (ltb 0 n) (ltb (length s * 8) (p + n)) refl refl e
@@ -34,14 +31,6 @@ module _ (s : List ℕ) (p n : ℕ) where
       go true true f g e = (ltb-true _ _ f, ltb-true _ _ g)
       go true false f g e = let z : _≡_ {A = ℕ} 0 1 = cc in absurd (omega arith)
       go false b f g e = let z : _≡_ {A = ℕ} 0 1 = cc in absurd (omega arith)
-
-  pub lacks-here : p + n ≤ length s * 8 → lacks s p n ≡ false
-  unfolding lacks
-  lacks-here h = rw (le-ltb _ _ h) (and-none (ltb 0 n))
-    where
-      and-none : (b : Bool) → (b && false) ≡ false
-      and-none true = refl
-      and-none false = refl
 
   lacks-past : 0 < n → length s * 8 < p + n → lacks s p n ≡ true
   unfolding lacks
@@ -55,11 +44,11 @@ none-lacking s p e = let (a, b) = lacks-true s p 0 e in omega arith
 pub lacks-part : (s : List ℕ) (p n q m : ℕ) → lacks s p n ≡ false → p ≤ q → q + m ≤ p + n → lacks s q m ≡ false
 unfolding lacks
 lacks-part s p n q zero e h l = refl
-lacks-part s p n q (suc m) e h l = let k = lacks-false s p n e (omega arith) in lacks-here s q (suc m) (omega arith)
+lacks-part s p n q (suc m) e h l = let k = lacks-none s p n (omega arith) e in lacks-inside s q (suc m) (omega arith)
 
 -- the first w bits of some that are lacking are there
 lacks-rest : (s : List ℕ) (p w n : ℕ) → lacks s p w ≡ false → lacks s p (w + n) ≡ true → lacks s (p + w) n ≡ true
-lacks-rest s p w zero e f = let (a, b) = lacks-true s p (w + 0) f in let k = lacks-false s p w e (omega arith) in absurd (omega arith)
+lacks-rest s p w zero e f = let (a, b) = lacks-true s p (w + 0) f in let k = lacks-none s p w (omega arith) e in absurd (omega arith)
 lacks-rest s p w (suc n) e f = let (a, b) = lacks-true s p (w + suc n) f in lacks-past s (p + w) (suc n) (omega arith) (omega arith)
 
 -- ---- fields

@@ -7,6 +7,11 @@ use native.Mathlib.Omega.{arith}
 use borrow.Author.Tests.{leb-true}
 use lib.Dec.{leb}
 use Rattle.bitstream.specs.Outcome.{Outcome, value, refused, _then_}
+use Rattle.aps.proofs.Lawful.{Lawful, total}
+use Rattle.aps.proofs.FieldLaws.{u-law}
+use Rattle.aps.proofs.CodecLaws.{when-law}
+use Rattle.aps.proofs.EachLaws.{each-law}
+use Rattle.aps.proofs.ElementLaws.{signed-law, noSigned-is, apart-law}
 use Rattle.aps.proofs.FieldSteps.{signed-u-lt}
 use Rattle.aps.proofs.Steps.{when-read}
 use Rattle.aps.specs.Codec.{Codec, u, ue, _▷_, via, judged, when}
@@ -78,6 +83,9 @@ module _ (chroma : Bool) (s : List ℕ) (p : ℕ) where
 -- a bin as the head says
 abbrev pub bin : ℕ → ℕ → ℕ → ℕ → Codec (ℕ × Bool)
 bin min max prec i = when (codedFrom min max i) noSigned (signed (u (prec + 1)))
+
+pub codewords-law : (h : LmcsHead) → Lawful (lmcsCodewords h) (total 0 16 (λ i. h .1 .1 + 1 + 1))
+codewords-law h = apart-law (each-law 0 16 λ i b. when-law (codedFrom (h .0) (h .1 .0) i) noSigned-is λ c. signed-law (u-law (h .1 .1 + 1)))
 
 -- the chroma delta is of 3 bits
 pub crs-lt : (chroma : Bool) (s : List ℕ) (p : ℕ) {m : ℕ} {b : Bool} {q : ℕ} → (lmcsChroma chroma) .read s p ≡ value (m, b) q → m < 8

@@ -12,8 +12,10 @@ use lib.Seq.{sets, drop-cons, drop-set-lt, drop-set-add}
 use Rattle.bitstream.specs.Outcome.{Outcome, value, refused, mapOutcome}
 use Rattle.aps.specs.Elements.{joined}
 use Rattle.aps.specs.Inner.{stored}
-use Rattle.aps.specs.ScalingSyntax.{Entry, idAt, scalingSyntax, filled, keep}
+use Rattle.aps.specs.ScalingSyntax.{Entry, idCoded, idAt, scalingSyntax, filled, keep}
 use Rattle.aps.specs.declared.scaling_list.VvcScalingListData.{VvcScalingListData}
+use Rattle.aps.proofs.CodecLaws.{when-law, inside}
+use Rattle.aps.proofs.ScalingLaws.{noEntry-is, entry-law, maxIdDelta-le}
 use Rattle.aps.proofs.Steps.{Reading, reading-start, reading-more, reading-refused, reading-done}
 use Rattle.aps.proofs.Gives.{given}
 use Rattle.aps.proofs.KeepLaws.{length-filled}
@@ -96,7 +98,7 @@ pub record Keeping (chroma : Bool) (s : List ℕ) (p i : ℕ) (copy pred : List 
   es : List Entry
   reading : Reading (idAt chroma) 28 blank s p i es q
   kept : Kept es copy pred delta dc list
-  pub near : q ≤ p + 4160 * i
+  pub near : q ≤ length s * 8
   pub count : i ≤ 28
 
 -- the value that another was made of
@@ -114,22 +116,22 @@ unmade f (value a r) n e = let z : _≡_ {A = ℕ} 0 1 = cc in absurd (omega ari
 unmade f (refused m) n e = cc
 
 module _ (chroma : Bool) (s : List ℕ) (p : ℕ) where
-  pub keeping-start : Keeping chroma s p 0 (replicate 28 false) (replicate 28 false) (replicate 28 0) (replicate 14 (pos 0)) (replicate 1792 (pos 0)) p
+  pub keeping-start : p ≤ length s * 8 → Keeping chroma s p 0 (replicate 28 false) (replicate 28 false) (replicate 28 0) (replicate 14 (pos 0)) (replicate 1792 (pos 0)) p
   unfolding filled
-  keeping-start =
+  keeping-start l =
       record {
         es = replicate 28 blank;
         reading = reading-start (idAt chroma) 28 blank s p;
         kept = record { copies = refl; preds = refl; deltas = refl; dcs = refl; lists = refl };
-        near = omega arith;
+        near = l;
         count = omega arith;
       }
 
   module _ (i : ℕ) (copy pred : List Bool) (delta : List ℕ) (dc list : List ℤ) (q : ℕ) (K : Keeping chroma s p i copy pred delta dc list q) where
-    pub keeping-more : (x : Entry) (r : ℕ) → i < 28 → value x r ≡ mapOutcome (stored list i) ((idAt chroma i) .read s q) → r ≤ q + 4160
+    pub keeping-more : (x : Entry) (r : ℕ) → i < 28 → value x r ≡ mapOutcome (stored list i) ((idAt chroma i) .read s q)
         → Keeping chroma s p (i + 1) (set copy i (x .0)) (set pred i (x .1 .0)) (set delta i (x .1 .1 .0))
         (cond (ltb 13 i) (set dc (i - 14) (x .1 .1 .1 .0)) dc) (x .1 .1 .1 .1) r
-    keeping-more x r h e b =
+    keeping-more x r h e =
         let M = made (stored list i) ((idAt chroma i) .read s q) x r e in
         let R = K .reading in
         let z : i < length (K .es) = omega (arith, R .size) in
@@ -140,7 +142,7 @@ module _ (chroma : Bool) (s : List ℕ) (p : ℕ) where
           es = set (K .es) i (M .of);
           reading = reading-more (idAt chroma) 28 blank s p i (K .es) q R (M .of) r h (M .is);
           kept = more (K .es) (M .of) z (K .kept) (ap (λ (e : Entry). e .1 .1 .1 .1) f) (given Short (M .is) (id-short chroma i s q)) x (M .makes);
-          near = omega (arith, K .near);
+          near = inside (when-law (idCoded chroma i) noEntry-is λ t. entry-law i (omega (arith, maxIdDelta-le i))) s q (M .of) r (M .is) (K .near);
           count = omega arith;
         }
       where

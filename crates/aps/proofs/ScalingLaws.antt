@@ -118,7 +118,7 @@ entry-law id h =
     ▷-law (when-law ((copy || pred) && not (eqb id 0 || eqb id 2 || eqb id 8)) noNumber-is λ s. ueTo-law (maxIdDelta id) h) λ delta o.
     when-law (not copy) (noPair-is (just-is (pos 0)) noEntries-is) λ s. coefficients-law id
 
-maxIdDelta-le : (id : ℕ) → maxIdDelta id ≤ id
+pub maxIdDelta-le : (id : ℕ) → maxIdDelta id ≤ id
 unfolding maxIdDelta
 maxIdDelta-le id = go (ltb id 2) (ltb id 8)
   where

@@ -16,11 +16,14 @@ use Rattle.bitstream.specs.Outcome.{Outcome, value, refused, mapOutcome, _then_
 use Rattle.aps.specs.Codec.{Codec, _▷_, via, judged, when, eachFrom}
 use Rattle.aps.specs.Elements.{flag, se, seIn, noFlag, noPair}
 use Rattle.aps.specs.Inner.{storedList, stored, outcomeStop}
-use Rattle.aps.specs.ScalingSyntax.{skipped, entries, idCoded, just, step, stepAt, sums, cons, Entry, coefficients, dcAt, deltaAt, noEntries, noEntry, entrySyntax, idAt}
+use Rattle.aps.specs.ScalingSyntax.{skipped, entries, maxIdDelta, idCoded, just, step, stepAt, sums, cons, Entry, coefficients, dcAt, deltaSent, deltaAt, noEntries, noEntry, entrySyntax, idAt}
 use Rattle.aps.specs.declared.fields.Stop.{Stop}
 use Rattle.aps.specs.declared.fields.Stop.the-variants as Stop
 use Rattle.aps.proofs.Gives.{Gives, given, gives-then, gives-▷, gives-when}
-use Rattle.aps.proofs.ScalingLaws.{entries-le}
+use Rattle.aps.proofs.Bounds.{ueTo-any}
+use Rattle.aps.proofs.CodecLaws.{when-law, inside}
+use Rattle.aps.proofs.ElementLaws.{noNumber-is}
+use Rattle.aps.proofs.ScalingLaws.{entries-le, just-is, step-law}
 use Rattle.aps.proofs.SignedLaws.{add-abs, not-ltZ}
 
 -- a position of the 64 is one of them
@@ -132,23 +135,23 @@ sums-length id i (suc n) prev s p = first ((stepAt id i prev) .read s p) refl (�
 -- The loop over the steps: the sums before i are stored in the flat array a, and what is left to read is stored after them.
 pub record Stepping (id n : ℕ) (dc : ℤ) (s : List ℕ) (p : ℕ) (a₀ : List ℤ) (i : ℕ) (a : List ℤ) (sum : ℤ) (q : ℕ) : Type 0 where
   pub left : mapOutcome (sets a (64 * id + i)) ((sums id i (n - i) sum) .read s q) ≡ mapOutcome (sets a₀ (64 * id)) ((sums id 0 n dc) .read s p)
-  pub near : q ≤ p + 63 * i
+  pub near : q ≤ length s * 8
   pub small : natAbs sum ≤ 128 * (i + 1)
   pub count : i ≤ n
 
 module _ (id n : ℕ) (dc : ℤ) (s : List ℕ) (p : ℕ) (a₀ : List ℤ) where
-  pub stepping-start : natAbs dc ≤ 128 → Stepping id n dc s p a₀ 0 a₀ dc p
-  stepping-start h = record { left = rw (add-zero (64 * id), sub-zero n); near = omega arith; small = omega arith; count = omega arith }
+  pub stepping-start : p ≤ length s * 8 → natAbs dc ≤ 128 → Stepping id n dc s p a₀ 0 a₀ dc p
+  stepping-start l h = record { left = rw (add-zero (64 * id), sub-zero n); near = l; small = omega arith; count = omega arith }
 
   module _ (i : ℕ) (a : List ℤ) (sum : ℤ) (q : ℕ) (R : Stepping id n dc s p a₀ i a sum q) where
-    pub stepping-more : (v : ℤ) (r : ℕ) → i < n → (stepAt id i sum) .read s q ≡ value v r → r ≤ q + 63 → Stepping id n dc s p a₀ (i + 1) (set a (64 * id + i) v) v r
-    stepping-more v r h e b =
+    pub stepping-more : (v : ℤ) (r : ℕ) → i < n → (stepAt id i sum) .read s q ≡ value v r → Stepping id n dc s p a₀ (i + 1) (set a (64 * id + i) v) v r
+    stepping-more v r h e =
         let m : n - i ≡ suc (n - (i + 1)) = omega arith in
         let f : mapOutcome (sets a (64 * id + i)) ((sums id i (n - i) sum) .read s q) ≡ mapOutcome (sets (set a (64 * id + i) v) (64 * id + (i + 1))) ((sums id (i + 1) (n - (i + 1)) v) .read s r)
         = rw (m, sums-more id i sum s q (n - (i + 1)) e, add-one i, add-suc (64 * id) i) (go ((sums id (suc i) (n - suc i) v) .read s r)) in
         record {
           left = sym f ∙ R .left;
-          near = omega (arith, R .near);
+          near = inside (when-law (not (skipped id i)) (just-is sum) λ t. step-law sum) s q v r e (R .near);
           small = omega (arith, R .small, given (λ (w : ℤ). natAbs w ≤ natAbs sum + 128) e (step-small id i sum s q));
           count = omega arith;
         }
@@ -208,6 +211,9 @@ module _ (id : ℕ) (s : List ℕ) (p : ℕ) where
       (stop-map (λ (l : List ℤ). (dc, l)) (storedList a id) (sets a (64 * id)) (λ l. (dc, l)) (λ l. refl) t a′ ((sums id 0 (entries id) dc) .read s q) r)
 
 -- ---- one id
+
+pub delta-inside : (id : ℕ) (used : Bool) (s : List ℕ) (p : ℕ) {v q : ℕ} → (deltaAt id used) .read s p ≡ value v q → p ≤ length s * 8 → q ≤ length s * 8
+delta-inside id used s p {v} {q} = inside (when-law (deltaSent id used) noNumber-is λ t. ueTo-any (maxIdDelta id)) s p v q
 
 pub entry-lacking : (id : ℕ) (s : List ℕ) (p : ℕ) {n : ℕ} → flag .read s p ≡ refused n → (entrySyntax id) .read s p ≡ refused n
 unfolding entrySyntax _▷_

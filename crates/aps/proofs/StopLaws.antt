@@ -1,12 +1,12 @@
 -- Runs of fields one after another.
 use mathlib.Core.Path.{_≡_, refl, ap, _∙_}
 use mathlib.Core.List.{List}
-use Prim.Native.Nat.{ℕ, _+_, _≤_}
+use Prim.Native.Nat.{ℕ, _≤_}
 use native.Mathlib.Omega.{arith}
 use Rattle.bitstream.specs.Outcome.{Outcome, value, refused, number, mapOutcome, _then_}
 use Rattle.bitstream.proofs.CodeLaws.{value-refused}
 use Rattle.aps.specs.Codec.{Codec, _▷_}
-use Rattle.aps.specs.Inner.{EndsBy, outcomeStop, after, StopsBy, Spans}
+use Rattle.aps.specs.Inner.{outcomeStop, after, StopsBy}
 use Rattle.aps.specs.declared.fields.Stop.{Stop}
 use Rattle.aps.specs.declared.fields.Stop.the-variants as Stop
 
@@ -22,40 +22,9 @@ pub map-stop : {A B : Type 0} (f : A → B) (to : Stop) (a : A) {o : Outcome A} 
 map-stop f (Stop.End q) a e = rw (← e)
 map-stop f (Stop.Refused n) a e = rw (← e)
 
-pub spans-end : {from : Stop} (p q n : ℕ) → from ≡ Stop.End p → q ≤ p + n → Spans from (Stop.End q) n
-spans-end p q n e h m k = let l : p ≤ m = rw e at k in omega arith
-
-pub spans-from : {from : Stop} (p : ℕ) (to : Stop) (n : ℕ) → from ≡ Stop.End p → StopsBy to (p + n) → Spans from to n
-spans-from p (Stop.End q) n e h = spans-end p q n e h
-spans-from p (Stop.Refused m) n e h = λ m k. tt
-
-pub ends-more : {A : Type 0} (o : Outcome A) (m n : ℕ) → EndsBy o m → m ≤ n → EndsBy o n
-ends-more (value a q) m n h l = omega arith
-ends-more (refused e) m n h l = tt
-
-module _ (to : Stop) (m : ℕ) where
-  pub stops-more : (n : ℕ) → StopsBy to m → m ≤ n → StopsBy to n
-  stops-more n = go to
-    where
-      go : (to : Stop) → StopsBy to m → m ≤ n → StopsBy to n
-      go (Stop.End q) h l = omega arith
-      go (Stop.Refused e) h l = tt
-
-  -- a bound on a stop, and on the value read up to it
-  module _ {A : Type 0} (a : A) where
-    pub stops-ends : StopsBy to m → EndsBy (outcomeStop to a) m
-    stops-ends = go to
-      where
-        go : (to : Stop) → StopsBy to m → EndsBy (outcomeStop to a) m
-        go (Stop.End q) h = h
-        go (Stop.Refused e) h = tt
-
-    pub ends-stops : EndsBy (outcomeStop to a) m → StopsBy to m
-    ends-stops = go to
-      where
-        go : (to : Stop) → EndsBy (outcomeStop to a) m → StopsBy to m
-        go (Stop.End q) h = h
-        go (Stop.Refused e) h = tt
+pub stops-more : (to : Stop) (m n : ℕ) → StopsBy to m → m ≤ n → StopsBy to n
+stops-more (Stop.End q) m n h l = omega arith
+stops-more (Stop.Refused e) m n h l = tt
 
 -- two runs, the second from where the first ended
 module _ {A B : Type 0} (c : Codec A) (k : A → Codec B) (s : List ℕ) (from : Stop) where

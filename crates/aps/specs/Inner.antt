@@ -44,11 +44,6 @@ abbrev pub after : {A : Type 0} → Stop → (ℕ → Outcome A) → Outcome A
 after (Stop.End p) f = f p
 after (Stop.Refused e) f = refused (number e)
 
--- a value ends at bit m or before
-abbrev pub EndsBy : {A : Type 0} → Outcome A → ℕ → Type 0
-EndsBy (value a q) m = q ≤ m
-EndsBy (refused e) m = Unit {0}
-
 -- a run ended at bit m or before
 abbrev pub StopsBy : Stop → ℕ → Type 0
 StopsBy (Stop.End p) m = p ≤ m

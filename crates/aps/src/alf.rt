@@ -8,7 +8,7 @@ use crate::fields::read_flag;
 use bitstream::Refusal;
 ghost use mathlib.Core.Path.{_≡_};
 ghost use mathlib.Core.Bool.{false};
-ghost use Prim.Native.Nat.{_+_, _≤_};
+ghost use Prim.Native.Nat.{_*_, _≤_};
 ghost use lib.ListN.{length};
 ghost use Rattle.bitstream.specs.declared.Refusal.the-variants.{UnexpectedEnd};
 ghost use Rattle.bitstream.specs.Outcome.{mapOutcome};
@@ -16,7 +16,7 @@ ghost use Rattle.aps.specs.AlfSyntax.{luma, toLuma, noLuma};
 ghost use Rattle.aps.specs.AlfSyntax.{chroma, toChroma, noChroma, cc, toCc, noCc};
 ghost use Rattle.aps.specs.AlfSyntax.{alf, alfFilters, toAlf};
 ghost use Rattle.aps.specs.ApsSyntax.{zeroAlf};
-ghost use Rattle.aps.specs.Inner.{EndsBy, outcomeStop, after, StopsBy, Spans};
+ghost use Rattle.aps.specs.Inner.{outcomeStop, after, StopsBy};
 
 // Luma filters: row r of the flat arrays is at 12 * r.
 pub struct VvcAlfLuma {
@@ -129,8 +129,8 @@ pub(crate) fn zero_alf() -> VvcAlfData
 
 // The luma filters if they are signalled.
 fn read_luma_if(bytes: &[u8], p: usize, signal: bool) -> LumaRead
-    requires { ⌜ (length (now bytes) ≤ 65536) × (p ≤ 90000) ⌝ }
-    ensures { λ r. ⌜ (outcomeStop (r .stop) (r .luma) ≡ (luma signal) .read (now (bytes .entry)) p) × StopsBy (r .stop) (p + 20664) ⌝ }
+    requires { ⌜ (length (now bytes) ≤ 65536) × (p ≤ length (now bytes) * 8) ⌝ }
+    ensures { λ r. ⌜ outcomeStop (r .stop) (r .luma) ≡ (luma signal) .read (now (bytes .entry)) p ⌝ }
 {
     if signal {
         return read_luma(bytes, p);
@@ -143,9 +143,8 @@ fn read_luma_if(bytes: &[u8], p: usize, signal: bool) -> LumaRead
 
 // The chroma filters if they are signalled.
 fn read_chroma_if(bytes: &[u8], from: Stop, signal: bool) -> ChromaRead
-    requires { ⌜ (length (now bytes) ≤ 65536) × StopsBy from 90000 ⌝ }
-    ensures { λ r. ⌜ (outcomeStop (r .stop) (r .chroma) ≡ after from λ p. (chroma signal) .read (now (bytes .entry)) p)
-        × Spans from (r .stop) 3232 ⌝ }
+    requires { ⌜ (length (now bytes) ≤ 65536) × StopsBy from (length (now bytes) * 8) ⌝ }
+    ensures { λ r. ⌜ (outcomeStop (r .stop) (r .chroma) ≡ after from λ p. (chroma signal) .read (now (bytes .entry)) p) ⌝ }
 {
     match from {
         Stop::End(p) => {
@@ -166,8 +165,8 @@ fn read_chroma_if(bytes: &[u8], from: Stop, signal: bool) -> ChromaRead
 
 // The filters of Cb or Cr if they are signalled.
 fn read_cc_if(bytes: &[u8], from: Stop, signal: bool) -> CcRead
-    requires { ⌜ (length (now bytes) ≤ 65536) × StopsBy from 90000 ⌝ }
-    ensures { λ r. ⌜ (outcomeStop (r .stop) (r .cc) ≡ after from λ p. (cc signal) .read (now (bytes .entry)) p) × Spans from (r .stop) 175 ⌝ }
+    requires { ⌜ (length (now bytes) ≤ 65536) × StopsBy from (length (now bytes) * 8) ⌝ }
+    ensures { λ r. ⌜ (outcomeStop (r .stop) (r .cc) ≡ after from λ p. (cc signal) .read (now (bytes .entry)) p) ⌝ }
 {
     match from {
         Stop::End(p) => {
@@ -188,10 +187,9 @@ fn read_cc_if(bytes: &[u8], from: Stop, signal: bool) -> CcRead
 
 // What the four flags announce.
 fn read_alf_filters(bytes: &[u8], p: usize, luma: bool, chroma: bool, cb: bool, cr: bool) -> AlfRead
-    requires { ⌜ (length (now bytes) ≤ 65536) × (p ≤ 1000) ⌝ }
-    ensures { λ r. ⌜ (outcomeStop (r .stop) (r .alf)
-        ≡ mapOutcome (λ x. toAlf (luma, (chroma, (cb, (cr, x))))) ((alfFilters luma chroma cb cr) .read (now (bytes .entry)) p))
-        × EndsBy (outcomeStop (r .stop) (r .alf)) (p + 24246) ⌝ }
+    requires { ⌜ (length (now bytes) ≤ 65536) × (p ≤ length (now bytes) * 8) ⌝ }
+    ensures { λ r. ⌜ outcomeStop (r .stop) (r .alf)
+        ≡ mapOutcome (λ x. toAlf (luma, (chroma, (cb, (cr, x))))) ((alfFilters luma chroma cb cr) .read (now (bytes .entry)) p) ⌝ }
 {
     let l = read_luma_if(bytes, p, luma);
     let luma_stop = l.stop;
@@ -232,9 +230,8 @@ fn no_alf() -> AlfRead
 
 // alf_data().
 pub(crate) fn parse_alf_data(bytes: &[u8], p: usize, chroma: bool) -> AlfRead
-    requires { ⌜ (length (now bytes) ≤ 65536) × (p ≤ 100) ⌝ }
-    ensures { λ r. ⌜ (outcomeStop (r .stop) (r .alf) ≡ (alf chroma) .read (now (bytes .entry)) p)
-        × EndsBy (outcomeStop (r .stop) (r .alf)) (p + 30000) ⌝ }
+    requires { ⌜ (length (now bytes) ≤ 65536) × (p ≤ length (now bytes) * 8) ⌝ }
+    ensures { λ r. ⌜ outcomeStop (r .stop) (r .alf) ≡ (alf chroma) .read (now (bytes .entry)) p ⌝ }
 {
     if chroma {
         if lacks_bits(bytes, p, 4) {

@@ -18,13 +18,13 @@ use bitstream::Refusal;
 use bitstream::bit_reader::FieldU;
 ghost use mathlib.Core.Path.{_≡_};
 ghost use mathlib.Core.Bool.{true, false};
-ghost use Prim.Native.Nat.{_+_, _*_, _≤_, _<_};
+ghost use Prim.Native.Nat.{_*_, _≤_, _<_};
 ghost use lib.ListN.{length, replicate};
 ghost use lib.Seq.{sets};
 ghost use Rattle.bitstream.specs.Outcome.{mapOutcome};
 ghost use Rattle.aps.specs.Elements.{zipped};
 ghost use Rattle.aps.specs.AlfSyntax.{chroma, alternative, alternatives, chromaArrays, cc, ccCoefficients};
-ghost use Rattle.aps.specs.Inner.{EndsBy, outcomeStop, StopsBy};
+ghost use Rattle.aps.specs.Inner.{outcomeStop};
 
 // One alternative: its coefficients and its clips.
 struct Alternative {
@@ -36,9 +36,8 @@ struct Alternative {
 
 // Alternatives that are sent are read alike, whichever it is and however many there are.
 fn read_alternative(bytes: &[u8], p: usize, clip: bool) -> Alternative
-    requires { ⌜ (length (now bytes) ≤ 65536) × (p ≤ 110000) ⌝ }
-    ensures { λ r. ⌜ (outcomeStop (r .stop) (zipped (r .abs) (r .sign), r .clip) ≡ (alternative clip 0 0) .read (now (bytes .entry)) p)
-        × StopsBy (r .stop) (p + 396) ⌝ }
+    requires { ⌜ (length (now bytes) ≤ 65536) × (p ≤ length (now bytes) * 8) ⌝ }
+    ensures { λ r. ⌜ outcomeStop (r .stop) (zipped (r .abs) (r .sign), r .clip) ≡ (alternative clip 0 0) .read (now (bytes .entry)) p ⌝ }
 {
     let mut abs = [0u32; 6];
     let mut sign = [false; 6];
@@ -86,11 +85,10 @@ fn read_alternatives(
     sign: &mut [bool; 48],
     clips: &mut [u8; 48],
 ) -> Stop
-    requires { ⌜ (length (now bytes) ≤ 65536) × (p ≤ 100000) × («count_minus1» ≤ 7)
+    requires { ⌜ (length (now bytes) ≤ 65536) × (p ≤ length (now bytes) * 8) × («count_minus1» ≤ 7)
         × (now abs ≡ replicate 48 0) × (now sign ≡ replicate 48 false) × (now clips ≡ replicate 48 0) ⌝ }
-    ensures { λ r. ⌜ (outcomeStop r (now (abs .exit), (now (sign .exit), now (clips .exit)))
-        ≡ mapOutcome chromaArrays ((alternatives clip «count_minus1») .read (now (bytes .entry)) p))
-        × StopsBy r (p + 3168) ⌝ }
+    ensures { λ r. ⌜ outcomeStop r (now (abs .exit), (now (sign .exit), now (clips .exit)))
+        ≡ mapOutcome chromaArrays ((alternatives clip «count_minus1») .read (now (bytes .entry)) p) ⌝ }
 {
     let mut at = p;
     let mut row: usize = 0;
@@ -109,9 +107,8 @@ fn read_alternatives(
 
 // The chroma filters.
 pub(crate) fn read_chroma(bytes: &[u8], p: usize) -> ChromaRead
-    requires { ⌜ (length (now bytes) ≤ 65536) × (p ≤ 90000) ⌝ }
-    ensures { λ r. ⌜ (outcomeStop (r .stop) (r .chroma) ≡ (chroma true) .read (now (bytes .entry)) p)
-        × EndsBy (outcomeStop (r .stop) (r .chroma)) (p + 3232) ⌝ }
+    requires { ⌜ (length (now bytes) ≤ 65536) × (p ≤ length (now bytes) * 8) ⌝ }
+    ensures { λ r. ⌜ outcomeStop (r .stop) (r .chroma) ≡ (chroma true) .read (now (bytes .entry)) p ⌝ }
 {
     if lacks_bits(bytes, p, 1) {
         return ChromaRead {
@@ -161,10 +158,9 @@ fn read_cc_coefficients(
     abs: &mut [u8; 28],
     sign: &mut [bool; 28],
 ) -> Stop
-    requires { ⌜ (length (now bytes) ≤ 65536) × (p ≤ 100000) × («count_minus1» ≤ 3)
+    requires { ⌜ (length (now bytes) ≤ 65536) × (p ≤ length (now bytes) * 8) × («count_minus1» ≤ 3)
         × (now abs ≡ replicate 28 0) × (now sign ≡ replicate 28 false) ⌝ }
-    ensures { λ r. ⌜ (outcomeStop r (now (abs .exit), now (sign .exit)) ≡ (ccCoefficients «count_minus1») .read (now (bytes .entry)) p)
-        × StopsBy r (p + 112) ⌝ }
+    ensures { λ r. ⌜ outcomeStop r (now (abs .exit), now (sign .exit)) ≡ (ccCoefficients «count_minus1») .read (now (bytes .entry)) p ⌝ }
 {
     let n = 7 * (count_minus1 as usize + 1);
     let mut at = p;
@@ -190,8 +186,8 @@ fn read_cc_coefficients(
 
 // The filters of Cb or Cr.
 pub(crate) fn read_cc(bytes: &[u8], p: usize) -> CcRead
-    requires { ⌜ (length (now bytes) ≤ 65536) × (p ≤ 90000) ⌝ }
-    ensures { λ r. ⌜ (outcomeStop (r .stop) (r .cc) ≡ (cc true) .read (now (bytes .entry)) p) × EndsBy (outcomeStop (r .stop) (r .cc)) (p + 175) ⌝ }
+    requires { ⌜ (length (now bytes) ≤ 65536) × (p ≤ length (now bytes) * 8) ⌝ }
+    ensures { λ r. ⌜ outcomeStop (r .stop) (r .cc) ≡ (cc true) .read (now (bytes .entry)) p ⌝ }
 {
     let count = read_ue_to(bytes, p, 3);
     match count {

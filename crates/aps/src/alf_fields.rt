@@ -9,14 +9,14 @@ use bitstream::Refusal;
 use bitstream::bit_reader::FieldU;
 ghost use mathlib.Core.Path.{_≡_};
 ghost use mathlib.Core.Bool.{false, cond};
-ghost use Prim.Native.Nat.{_+_, _*_, _≤_, _<_};
+ghost use Prim.Native.Nat.{_*_, _≤_};
 ghost use lib.Dec.{ltb};
 ghost use lib.ListN.{length, replicate};
 ghost use Rattle.bitstream.specs.Reading.{outcomeU};
 ghost use Rattle.aps.specs.Codec.{u, when, each};
 ghost use Rattle.aps.specs.Elements.{ueTo, noNumber, noSigned, apart};
 ghost use Rattle.aps.specs.AlfSyntax.{ceilLog2, coefficient};
-ghost use Rattle.aps.specs.Inner.{EndsBy, outcomeStop, outcomeSigned, after, StopsBy, Spans};
+ghost use Rattle.aps.specs.Inner.{outcomeStop, outcomeSigned, after, StopsBy};
 
 // Ceil( Log2( x ) ).
 pub(crate) fn ceil_log2(x: u32) -> u32
@@ -30,8 +30,8 @@ pub(crate) fn ceil_log2(x: u32) -> u32
 
 // ue(v) in 0..most.
 pub(crate) fn read_ue_to(bytes: &[u8], p: usize, most: u32) -> FieldU
-    requires { ⌜ (length (now bytes) ≤ 65536) × (p ≤ 900000) ⌝ }
-    ensures { λ r. ⌜ (outcomeU r ≡ (ueTo most) .read (now (bytes .entry)) p) × EndsBy (outcomeU r) (p + 63) ⌝ }
+    requires { ⌜ (length (now bytes) ≤ 65536) × (p ≤ length (now bytes) * 8) ⌝ }
+    ensures { λ r. ⌜ outcomeU r ≡ (ueTo most) .read (now (bytes .entry)) p ⌝ }
 {
     let field = read_ue(bytes, p);
     match field {
@@ -48,8 +48,8 @@ pub(crate) fn read_ue_to(bytes: &[u8], p: usize, most: u32) -> FieldU
 
 // A magnitude in 0..128, and its sign if it is not 0.
 pub(crate) fn read_coefficient(bytes: &[u8], p: usize) -> SignedField
-    requires { ⌜ (length (now bytes) ≤ 65536) × (p ≤ 900000) ⌝ }
-    ensures { λ r. ⌜ (outcomeSigned r ≡ coefficient .read (now (bytes .entry)) p) × EndsBy (outcomeSigned r) (p + 64) ⌝ }
+    requires { ⌜ (length (now bytes) ≤ 65536) × (p ≤ length (now bytes) * 8) ⌝ }
+    ensures { λ r. ⌜ outcomeSigned r ≡ coefficient .read (now (bytes .entry)) p ⌝ }
 {
     let magnitude = read_ue_to(bytes, p, 128);
     match magnitude {
@@ -83,11 +83,10 @@ pub(crate) fn read_coefficients(
     abs: &mut [u32],
     sign: &mut [bool],
 ) -> Stop
-    requires { ⌜ (length (now bytes) ≤ 65536) × StopsBy from 200000 × (n ≤ length (now abs)) × (n ≤ 300)
+    requires { ⌜ (length (now bytes) ≤ 65536) × StopsBy from (length (now bytes) * 8) × (n ≤ length (now abs)) × (n ≤ 300)
         × (now abs ≡ replicate (length (now abs)) 0) × (now sign ≡ replicate (length (now abs)) false) ⌝ }
     ensures { λ r. ⌜ (outcomeStop r (now (abs .exit), now (sign .exit)) ≡ after from λ p.
-        (apart (each (length (now (abs .entry))) (λ i. when (ltb i n) noSigned coefficient))) .read (now (bytes .entry)) p)
-        × Spans from r (64 * n) ⌝ }
+        (apart (each (length (now (abs .entry))) (λ i. when (ltb i n) noSigned coefficient))) .read (now (bytes .entry)) p) ⌝ }
 {
     let mut at = match from {
         Stop::End(p) => p,
@@ -115,11 +114,10 @@ pub(crate) fn read_coefficients(
 
 // The first n clips of an array of zeros.
 pub(crate) fn read_clips(bytes: &[u8], from: Stop, n: usize, clip: &mut [u8]) -> Stop
-    requires { ⌜ (length (now bytes) ≤ 65536) × StopsBy from 200000 × (n ≤ length (now clip)) × (n ≤ 300)
+    requires { ⌜ (length (now bytes) ≤ 65536) × StopsBy from (length (now bytes) * 8) × (n ≤ length (now clip)) × (n ≤ 300)
         × (now clip ≡ replicate (length (now clip)) 0) ⌝ }
     ensures { λ r. ⌜ (outcomeStop r (now (clip .exit)) ≡ after from λ p.
-        (each (length (now (clip .entry))) (λ i. when (ltb i n) noNumber (u 2))) .read (now (bytes .entry)) p)
-        × Spans from r (2 * n) ⌝ }
+        (each (length (now (clip .entry))) (λ i. when (ltb i n) noNumber (u 2))) .read (now (bytes .entry)) p) ⌝ }
 {
     let p = match from {
         Stop::End(p) => p,

@@ -15,16 +15,16 @@ use bitstream::Refusal;
 use bitstream::bit_reader::FieldU;
 ghost use mathlib.Core.Path.{_≡_};
 ghost use mathlib.Core.Bool.{true, false};
-ghost use Prim.Native.Nat.{_+_, _*_, _≤_, _<_};
+ghost use Prim.Native.Nat.{_*_, _≤_};
 ghost use lib.ListN.{length, replicate};
 ghost use Rattle.bitstream.specs.Outcome.{mapOutcome};
 ghost use Rattle.aps.specs.AlfSyntax.{luma, lumaIndexes, lumaFilters, toLuma};
-ghost use Rattle.aps.specs.Inner.{EndsBy, outcomeStop, StopsBy};
+ghost use Rattle.aps.specs.Inner.{outcomeStop};
 
 // The 25 indexes, each at most count - 1, if there is more than one filter.
 fn read_indexes(bytes: &[u8], p: usize, count_minus1: u32, idx: &mut [u8; 25]) -> Stop
-    requires { ⌜ (length (now bytes) ≤ 65536) × (p ≤ 100000) × («count_minus1» ≤ 24) × (now idx ≡ replicate 25 0) ⌝ }
-    ensures { λ r. ⌜ (outcomeStop r (now (idx .exit)) ≡ (lumaIndexes «count_minus1») .read (now (bytes .entry)) p) × StopsBy r (p + 800) ⌝ }
+    requires { ⌜ (length (now bytes) ≤ 65536) × (p ≤ length (now bytes) * 8) × («count_minus1» ≤ 24) × (now idx ≡ replicate 25 0) ⌝ }
+    ensures { λ r. ⌜ outcomeStop r (now (idx .exit)) ≡ (lumaIndexes «count_minus1») .read (now (bytes .entry)) p ⌝ }
 {
     if count_minus1 == 0 {
         return Stop::End(p);
@@ -49,10 +49,9 @@ fn read_indexes(bytes: &[u8], p: usize, count_minus1: u32, idx: &mut [u8; 25]) -
 
 // The indexes, coefficients and clips of the luma filters.
 fn read_luma_filters(bytes: &[u8], p: usize, clip: bool, count_minus1: u32) -> LumaRead
-    requires { ⌜ (length (now bytes) ≤ 65536) × (p ≤ 100000) × («count_minus1» ≤ 24) ⌝ }
-    ensures { λ r. ⌜ (outcomeStop (r .stop) (r .luma)
-        ≡ mapOutcome (λ x. toLuma (clip, («count_minus1», x))) ((lumaFilters clip «count_minus1») .read (now (bytes .entry)) p))
-        × EndsBy (outcomeStop (r .stop) (r .luma)) (p + 20600) ⌝ }
+    requires { ⌜ (length (now bytes) ≤ 65536) × (p ≤ length (now bytes) * 8) × («count_minus1» ≤ 24) ⌝ }
+    ensures { λ r. ⌜ outcomeStop (r .stop) (r .luma)
+        ≡ mapOutcome (λ x. toLuma (clip, («count_minus1», x))) ((lumaFilters clip «count_minus1») .read (now (bytes .entry)) p) ⌝ }
 {
     let mut idx = [0u8; 25];
     let mut abs = [0u32; 300];
@@ -77,9 +76,8 @@ fn read_luma_filters(bytes: &[u8], p: usize, clip: bool, count_minus1: u32) -> L
 
 // The luma filters.
 pub(crate) fn read_luma(bytes: &[u8], p: usize) -> LumaRead
-    requires { ⌜ (length (now bytes) ≤ 65536) × (p ≤ 90000) ⌝ }
-    ensures { λ r. ⌜ (outcomeStop (r .stop) (r .luma) ≡ (luma true) .read (now (bytes .entry)) p)
-        × EndsBy (outcomeStop (r .stop) (r .luma)) (p + 20664) ⌝ }
+    requires { ⌜ (length (now bytes) ≤ 65536) × (p ≤ length (now bytes) * 8) ⌝ }
+    ensures { λ r. ⌜ outcomeStop (r .stop) (r .luma) ≡ (luma true) .read (now (bytes .entry)) p ⌝ }
 {
     if lacks_bits(bytes, p, 1) {
         return LumaRead {

@@ -18,7 +18,7 @@ use bitstream::bit_reader::BitReader;
 use bitstream::bit_reader::Trailing;
 ghost use mathlib.Core.Path.{_≡_};
 ghost use mathlib.Core.Bool.{false};
-ghost use Prim.Native.Nat.{_-_, _≤_};
+ghost use Prim.Native.Nat.{_*_, _≤_};
 ghost use lib.ListN.{length};
 ghost use Rattle.aps.specs.Inner.{AnswersLmcs, Headed, withExtension, finished};
 ghost use Rattle.aps.specs.Rbsp.{closed, readRbsp, parseApsRbsp};
@@ -125,7 +125,7 @@ pub(crate) fn refuse(why: Refusal) -> ApsReading
 
 // Where the RBSP ends: with extension flag 1 nothing more is read.
 fn read_end(bytes: &[u8], p: usize, extension: bool) -> ApsOutcome
-    requires { ⌜ (length (now bytes) ≤ 65536) × (p ≤ 900000) ⌝ }
+    requires { ⌜ (length (now bytes) ≤ 65536) × (p ≤ length (now bytes) * 8) ⌝ }
     ensures { λ r. ⌜ ((a : VvcAps) → a .«aps_extension_flag» ≡ extension → outcomeRead r a ≡ closed (now (bytes .entry)) a p) ⌝ }
 {
     if extension {
@@ -145,7 +145,7 @@ struct Ending {
 
 // What follows the payload.
 fn read_ending(bytes: &[u8], p: usize) -> Ending
-    requires { ⌜ (length (now bytes) ≤ 65536) × (p ≤ 800000) ⌝ }
+    requires { ⌜ (length (now bytes) ≤ 65536) × (p ≤ length (now bytes) * 8) ⌝ }
     ensures { λ r. ⌜ ((a : VvcAps) → outcomeRead (r .outcome) (withExtension a (r .extension)) ≡ finished (now (bytes .entry)) a p) ⌝ }
 {
     if lacks_bits(bytes, p, 1) {

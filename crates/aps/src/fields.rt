@@ -5,7 +5,7 @@ use bitstream::bit_reader::FieldS;
 use bitstream::bit_reader::FieldU;
 ghost use mathlib.Core.Path.{_≡_};
 ghost use mathlib.Core.Bool.{not};
-ghost use Prim.Native.Nat.{_+_, _≤_};
+ghost use Prim.Native.Nat.{_*_, _≤_};
 ghost use lib.Dec.{eqb};
 ghost use lib.ListN.{length};
 ghost use Rattle.bitstream.specs.Bits.{fieldAt};
@@ -13,7 +13,7 @@ ghost use Rattle.bitstream.specs.Fields.{lacks};
 ghost use Rattle.bitstream.specs.Reading.{outcomeU, outcomeS};
 ghost use Rattle.aps.specs.Codec.{u, ue};
 ghost use Rattle.aps.specs.Elements.{se, signed};
-ghost use Rattle.aps.specs.Inner.{EndsBy, outcomeSigned};
+ghost use Rattle.aps.specs.Inner.{outcomeSigned};
 
 // Where a run of fields ended, or why it was refused.
 pub(crate) enum Stop {
@@ -62,7 +62,7 @@ pub(crate) fn read_flag(bytes: &[u8], p: usize) -> bool
 // ue(v).
 pub(crate) fn read_ue(bytes: &[u8], p: usize) -> FieldU
     requires { ⌜ (length (now bytes) ≤ 65536) × (p ≤ 1000000) ⌝ }
-    ensures { λ r. ⌜ (outcomeU r ≡ ue .read (now (bytes .entry)) p) × EndsBy (outcomeU r) (p + 63) ⌝ }
+    ensures { λ r. ⌜ outcomeU r ≡ ue .read (now (bytes .entry)) p ⌝ }
 {
     let read = (BitReader { bit_pos: p }).ue(bytes);
     if read.lacking {
@@ -75,7 +75,7 @@ pub(crate) fn read_ue(bytes: &[u8], p: usize) -> FieldU
 // se(v).
 pub(crate) fn read_se(bytes: &[u8], p: usize) -> FieldS
     requires { ⌜ (length (now bytes) ≤ 65536) × (p ≤ 1000000) ⌝ }
-    ensures { λ r. ⌜ (outcomeS r ≡ se .read (now (bytes .entry)) p) × EndsBy (outcomeS r) (p + 63) ⌝ }
+    ensures { λ r. ⌜ outcomeS r ≡ se .read (now (bytes .entry)) p ⌝ }
 {
     let read = (BitReader { bit_pos: p }).se(bytes);
     if read.lacking {
@@ -87,8 +87,8 @@ pub(crate) fn read_se(bytes: &[u8], p: usize) -> FieldS
 
 // A magnitude u(n), and its sign if it is not 0.
 pub(crate) fn read_signed(bytes: &[u8], p: usize, n: u32) -> SignedField
-    requires { ⌜ (length (now bytes) ≤ 65536) × (p ≤ 900000) × (n ≤ 32) ⌝ }
-    ensures { λ r. ⌜ (outcomeSigned r ≡ (signed (u n)) .read (now (bytes .entry)) p) × EndsBy (outcomeSigned r) (p + n + 1) ⌝ }
+    requires { ⌜ (length (now bytes) ≤ 65536) × (p ≤ length (now bytes) * 8) × (n ≤ 32) ⌝ }
+    ensures { λ r. ⌜ outcomeSigned r ≡ (signed (u n)) .read (now (bytes .entry)) p ⌝ }
 {
     if lacks_bits(bytes, p, n as usize) {
         return SignedField::Refused(Refusal::UnexpectedEnd);

@@ -7,9 +7,9 @@ use bitstream::Refusal;
 use bitstream::bit_reader::FieldU;
 ghost use mathlib.Core.Path.{_≡_};
 ghost use mathlib.Core.Bool.{true};
-ghost use Prim.Native.Nat.{_+_, _≤_};
+ghost use Prim.Native.Nat.{_*_, _≤_};
 ghost use lib.ListN.{length};
-ghost use Rattle.aps.specs.Inner.{lmcsRest, EndsBy, outcomeStop, outcomeSigned, StopsBy};
+ghost use Rattle.aps.specs.Inner.{lmcsRest, outcomeStop, outcomeSigned};
 ghost use Rattle.aps.specs.LmcsSyntax.{inRange, lmcsHead, lmcsCodewords, lmcsChroma, lmcs};
 ghost use Rattle.aps.specs.ApsSyntax.{zeroLmcs};
 
@@ -85,8 +85,8 @@ fn no_head(why: Refusal) -> Head
 
 // All three are read, then judged.
 fn read_head(bytes: &[u8], p: usize) -> Head
-    requires { ⌜ (length (now bytes) ≤ 65536) × (p ≤ 100) ⌝ }
-    ensures { λ r. ⌜ (outcomeStop (r .stop) (r .min, (r .max, r .prec)) ≡ lmcsHead .read (now (bytes .entry)) p) × StopsBy (r .stop) (p + 189) ⌝ }
+    requires { ⌜ (length (now bytes) ≤ 65536) × (p ≤ length (now bytes) * 8) ⌝ }
+    ensures { λ r. ⌜ outcomeStop (r .stop) (r .min, (r .max, r .prec)) ≡ lmcsHead .read (now (bytes .entry)) p ⌝ }
 {
     match read_ue(bytes, p) {
         FieldU::Refused(why) => no_head(why),
@@ -113,9 +113,8 @@ fn read_head(bytes: &[u8], p: usize) -> Head
 
 // Bins min to 15 - max: a magnitude u(n), and its sign if it is not 0.
 fn read_codewords(bytes: &[u8], p: usize, min: u32, max: u32, prec: u32) -> Codewords
-    requires { ⌜ (length (now bytes) ≤ 65536) × (p ≤ 1000) × (inRange (min, (max, prec)) ≡ true) ⌝ }
-    ensures { λ r. ⌜ (outcomeStop (r .stop) (r .abs, r .sign) ≡ (lmcsCodewords (min, (max, prec))) .read (now (bytes .entry)) p)
-        × StopsBy (r .stop) (p + 256) ⌝ }
+    requires { ⌜ (length (now bytes) ≤ 65536) × (p ≤ length (now bytes) * 8) × (inRange (min, (max, prec)) ≡ true) ⌝ }
+    ensures { λ r. ⌜ outcomeStop (r .stop) (r .abs, r .sign) ≡ (lmcsCodewords (min, (max, prec))) .read (now (bytes .entry)) p ⌝ }
 {
     let mut abs = [0u32; 16];
     let mut sign = [false; 16];
@@ -152,8 +151,8 @@ fn read_codewords(bytes: &[u8], p: usize, min: u32, max: u32, prec: u32) -> Code
 
 // A magnitude u(3) and its sign, where chroma is present.
 fn read_crs(bytes: &[u8], p: usize, chroma: bool) -> SignedField
-    requires { ⌜ (length (now bytes) ≤ 65536) × (p ≤ 2000) ⌝ }
-    ensures { λ r. ⌜ (outcomeSigned r ≡ (lmcsChroma chroma) .read (now (bytes .entry)) p) × EndsBy (outcomeSigned r) (p + 4) ⌝ }
+    requires { ⌜ (length (now bytes) ≤ 65536) × (p ≤ length (now bytes) * 8) ⌝ }
+    ensures { λ r. ⌜ outcomeSigned r ≡ (lmcsChroma chroma) .read (now (bytes .entry)) p ⌝ }
 {
     if chroma {
         return read_signed(bytes, p, 3);
@@ -176,8 +175,8 @@ fn no_lmcs(why: Refusal) -> LmcsRead
 
 // The codewords and the chroma delta, after the head.
 fn read_rest(bytes: &[u8], p: usize, chroma: bool, min: u32, max: u32, prec: u32) -> LmcsRead
-    requires { ⌜ (length (now bytes) ≤ 65536) × (p ≤ 1000) × (inRange (min, (max, prec)) ≡ true) ⌝ }
-    ensures { λ r. ⌜ (outcomeStop (r .stop) (r .lmcs) ≡ lmcsRest chroma (min, (max, prec)) (now (bytes .entry)) p) × StopsBy (r .stop) (p + 260) ⌝ }
+    requires { ⌜ (length (now bytes) ≤ 65536) × (p ≤ length (now bytes) * 8) × (inRange (min, (max, prec)) ≡ true) ⌝ }
+    ensures { λ r. ⌜ outcomeStop (r .stop) (r .lmcs) ≡ lmcsRest chroma (min, (max, prec)) (now (bytes .entry)) p ⌝ }
 {
     let cw = read_codewords(bytes, p, min, max, prec);
     let stop = cw.stop;
@@ -210,8 +209,8 @@ fn read_rest(bytes: &[u8], p: usize, chroma: bool, min: u32, max: u32, prec: u32
 
 // lmcs_data().
 pub(crate) fn parse_lmcs_data(bytes: &[u8], p: usize, chroma: bool) -> LmcsRead
-    requires { ⌜ (length (now bytes) ≤ 65536) × (p ≤ 100) ⌝ }
-    ensures { λ r. ⌜ (outcomeStop (r .stop) (r .lmcs) ≡ (lmcs chroma) .read (now (bytes .entry)) p) × StopsBy (r .stop) (p + 500) ⌝ }
+    requires { ⌜ (length (now bytes) ≤ 65536) × (p ≤ length (now bytes) * 8) ⌝ }
+    ensures { λ r. ⌜ outcomeStop (r .stop) (r .lmcs) ≡ (lmcs chroma) .read (now (bytes .entry)) p ⌝ }
 {
     let head = read_head(bytes, p);
     let stop = head.stop;

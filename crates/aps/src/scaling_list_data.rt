@@ -17,7 +17,7 @@ use bitstream::bit_reader::FieldS;
 use bitstream::bit_reader::FieldU;
 ghost use mathlib.Core.Path.{_≡_};
 ghost use mathlib.Core.Bool.{cond};
-ghost use Prim.Native.Nat.{_+_, _-_, _*_, _≤_, _<_};
+ghost use Prim.Native.Nat.{_-_, _*_, _≤_, _<_};
 ghost use lib.Dec.{ltb};
 ghost use lib.IntN.{pos, negsuc, natAbs};
 ghost use lib.ListN.{length, set};
@@ -25,7 +25,7 @@ ghost use lib.Seq.{sets};
 ghost use Rattle.bitstream.specs.Outcome.{mapOutcome};
 ghost use Rattle.bitstream.specs.Reading.{outcomeU, outcomeS};
 ghost use Rattle.aps.specs.Elements.{seIn};
-ghost use Rattle.aps.specs.Inner.{storedList, stored, EndsBy, outcomeStop, outcomeCoefficients, outcomeId};
+ghost use Rattle.aps.specs.Inner.{storedList, stored, outcomeStop, outcomeCoefficients, outcomeId};
 ghost use Rattle.aps.specs.ScalingSyntax.{entries, stepAt, sums, dcAt, deltaAt, coefficients, entrySyntax, idAt, scalingSyntax, keep};
 
 // What reading scaling_list_data() gives.
@@ -51,8 +51,8 @@ struct IdRead {
 
 // se(v) in -128..127.
 fn read_se8(bytes: &[u8], p: usize) -> FieldS
-    requires { ⌜ (length (now bytes) ≤ 65536) × (p ≤ 900000) ⌝ }
-    ensures { λ r. ⌜ (outcomeS r ≡ (seIn (negsuc 127) (pos 127)) .read (now (bytes .entry)) p) × EndsBy (outcomeS r) (p + 63) ⌝ }
+    requires { ⌜ (length (now bytes) ≤ 65536) × (p ≤ length (now bytes) * 8) ⌝ }
+    ensures { λ r. ⌜ outcomeS r ≡ (seIn (negsuc 127) (pos 127)) .read (now (bytes .entry)) p ⌝ }
 {
     let field = read_se(bytes, p);
     match field {
@@ -71,8 +71,8 @@ fn read_se8(bytes: &[u8], p: usize) -> FieldS
 
 // The sum at position i, after prev.
 fn read_step(bytes: &[u8], p: usize, id: usize, i: usize, prev: i32) -> FieldS
-    requires { ⌜ (length (now bytes) ≤ 65536) × (p ≤ 900000) × (i < 64) × (natAbs prev ≤ 9000) ⌝ }
-    ensures { λ r. ⌜ (outcomeS r ≡ (stepAt id i prev) .read (now (bytes .entry)) p) × EndsBy (outcomeS r) (p + 63) ⌝ }
+    requires { ⌜ (length (now bytes) ≤ 65536) × (p ≤ length (now bytes) * 8) × (i < 64) × (natAbs prev ≤ 9000) ⌝ }
+    ensures { λ r. ⌜ outcomeS r ≡ (stepAt id i prev) .read (now (bytes .entry)) p ⌝ }
 {
     if step_skipped(id, i) {
         return FieldS::Value(prev, BitReader { bit_pos: p });
@@ -86,10 +86,9 @@ fn read_step(bytes: &[u8], p: usize, id: usize, i: usize, prev: i32) -> FieldS
 
 // The sums of id after its DC, stored in its list.
 fn read_steps(bytes: &[u8], p: usize, id: usize, dc: i32, list: &mut [i32; 1792]) -> Stop
-    requires { ⌜ (length (now bytes) ≤ 65536) × (p ≤ 800000) × (id < 28) × (natAbs dc ≤ 128) ⌝ }
-    ensures { λ r. ⌜ (outcomeStop r (now (list .exit))
-        ≡ mapOutcome (λ l. sets (now (list .entry)) (64 * id) l) ((sums id 0 (entries id) dc) .read (now (bytes .entry)) p))
-        × EndsBy (outcomeStop r (now (list .exit))) (p + 4032) ⌝ }
+    requires { ⌜ (length (now bytes) ≤ 65536) × (p ≤ length (now bytes) * 8) × (id < 28) × (natAbs dc ≤ 128) ⌝ }
+    ensures { λ r. ⌜ outcomeStop r (now (list .exit))
+        ≡ mapOutcome (λ l. sets (now (list .entry)) (64 * id) l) ((sums id 0 (entries id) dc) .read (now (bytes .entry)) p) ⌝ }
 {
     let n = matrix_entries(id);
     let mut sum = dc;
@@ -114,8 +113,8 @@ fn read_steps(bytes: &[u8], p: usize, id: usize, dc: i32, list: &mut [i32; 1792]
 
 // scaling_list_dc_coef, above id 13.
 fn read_dc(bytes: &[u8], p: usize, id: usize) -> FieldS
-    requires { ⌜ (length (now bytes) ≤ 65536) × (p ≤ 900000) ⌝ }
-    ensures { λ r. ⌜ (outcomeS r ≡ (dcAt id) .read (now (bytes .entry)) p) × EndsBy (outcomeS r) (p + 63) ⌝ }
+    requires { ⌜ (length (now bytes) ≤ 65536) × (p ≤ length (now bytes) * 8) ⌝ }
+    ensures { λ r. ⌜ outcomeS r ≡ (dcAt id) .read (now (bytes .entry)) p ⌝ }
 {
     if 13 < id {
         return read_se8(bytes, p);
@@ -130,10 +129,9 @@ pub(crate) fn read_coefficients(
     id: usize,
     list: &mut [i32; 1792],
 ) -> CoefficientsRead
-    requires { ⌜ (length (now bytes) ≤ 65536) × (p ≤ 700000) × (id < 28) ⌝ }
-    ensures { λ r. ⌜ (outcomeCoefficients r (now (list .exit))
-        ≡ mapOutcome (storedList (now (list .entry)) id) ((coefficients id) .read (now (bytes .entry)) p))
-        × EndsBy (outcomeCoefficients r (now (list .exit))) (p + 4095) ⌝ }
+    requires { ⌜ (length (now bytes) ≤ 65536) × (p ≤ length (now bytes) * 8) × (id < 28) ⌝ }
+    ensures { λ r. ⌜ outcomeCoefficients r (now (list .exit))
+        ≡ mapOutcome (storedList (now (list .entry)) id) ((coefficients id) .read (now (bytes .entry)) p) ⌝ }
 {
     let field = read_dc(bytes, p, id);
     match field {
@@ -150,8 +148,8 @@ pub(crate) fn read_coefficients(
 
 // scaling_list_pred_id_delta.
 fn read_delta(bytes: &[u8], p: usize, id: usize, used: bool) -> FieldU
-    requires { ⌜ (length (now bytes) ≤ 65536) × (p ≤ 900000) × (id < 28) ⌝ }
-    ensures { λ r. ⌜ (outcomeU r ≡ (deltaAt id used) .read (now (bytes .entry)) p) × EndsBy (outcomeU r) (p + 63) ⌝ }
+    requires { ⌜ (length (now bytes) ≤ 65536) × (p ≤ length (now bytes) * 8) × (id < 28) ⌝ }
+    ensures { λ r. ⌜ outcomeU r ≡ (deltaAt id used) .read (now (bytes .entry)) p ⌝ }
 {
     if !delta_sent(id, used) {
         return FieldU::Value(0, BitReader { bit_pos: p });
@@ -182,9 +180,8 @@ fn no_id(why: Refusal) -> IdRead
 
 // One coded id.
 fn read_entry(bytes: &[u8], p: usize, id: usize, list: &mut [i32; 1792]) -> IdRead
-    requires { ⌜ (length (now bytes) ≤ 65536) × (p ≤ 600000) × (id < 28) ⌝ }
-    ensures { λ r. ⌜ (outcomeId r (now (list .exit)) ≡ mapOutcome (stored (now (list .entry)) id) ((entrySyntax id) .read (now (bytes .entry)) p))
-        × EndsBy (outcomeId r (now (list .exit))) (p + 4160) ⌝ }
+    requires { ⌜ (length (now bytes) ≤ 65536) × (p ≤ length (now bytes) * 8) × (id < 28) ⌝ }
+    ensures { λ r. ⌜ outcomeId r (now (list .exit)) ≡ mapOutcome (stored (now (list .entry)) id) ((entrySyntax id) .read (now (bytes .entry)) p) ⌝ }
 {
     if lacks_bits(bytes, p, 1) {
         return no_id(Refusal::UnexpectedEnd);
@@ -225,9 +222,8 @@ fn read_entry(bytes: &[u8], p: usize, id: usize, list: &mut [i32; 1792]) -> IdRe
 
 // One id; an uncoded one is a copy.
 fn read_id(bytes: &[u8], p: usize, chroma: bool, id: usize, list: &mut [i32; 1792]) -> IdRead
-    requires { ⌜ (length (now bytes) ≤ 65536) × (p ≤ 600000) × (id < 28) ⌝ }
-    ensures { λ r. ⌜ (outcomeId r (now (list .exit)) ≡ mapOutcome (stored (now (list .entry)) id) ((idAt chroma id) .read (now (bytes .entry)) p))
-        × EndsBy (outcomeId r (now (list .exit))) (p + 4160) ⌝ }
+    requires { ⌜ (length (now bytes) ≤ 65536) × (p ≤ length (now bytes) * 8) × (id < 28) ⌝ }
+    ensures { λ r. ⌜ outcomeId r (now (list .exit)) ≡ mapOutcome (stored (now (list .entry)) id) ((idAt chroma id) .read (now (bytes .entry)) p) ⌝ }
 {
     if scaling_id_coded(id, chroma) {
         return read_entry(bytes, p, id, list);
@@ -253,9 +249,8 @@ fn store_dc(dc: &mut [i32; 14], id: usize, value: i32)
 
 // scaling_list_data().
 pub(crate) fn parse_scaling_list_data(bytes: &[u8], p: usize, chroma: bool) -> ScalingRead
-    requires { ⌜ (length (now bytes) ≤ 65536) × (p ≤ 100) ⌝ }
-    ensures { λ r. ⌜ (outcomeStop (r .stop) (r .scaling) ≡ mapOutcome keep ((scalingSyntax chroma) .read (now (bytes .entry)) p))
-        × EndsBy (outcomeStop (r .stop) (r .scaling)) (p + 200000) ⌝ }
+    requires { ⌜ (length (now bytes) ≤ 65536) × (p ≤ length (now bytes) * 8) ⌝ }
+    ensures { λ r. ⌜ outcomeStop (r .stop) (r .scaling) ≡ mapOutcome keep ((scalingSyntax chroma) .read (now (bytes .entry)) p) ⌝ }
 {
     let mut copy = [false; 28];
     let mut pred = [false; 28];

@@ -1,12 +1,10 @@
 -- `parse_alf_data`: the four flags, or the first alone, and what they announce.
 use borrow.Author.Needs.{needs}
 use mathlib.Core.Path.{sym, _∙_}
-use Prim.Native.Nat.{_+_}
 use native.Mathlib.Omega.{arith}
 use denote.Ref.{now}
-use Rattle.aps.specs.Inner.{outcomeStop}
+use Rattle.aps.proofs.FieldLaws.{lacks-none}
 use Rattle.aps.proofs.AlfSteps.{alf-lacking, alf-lacking-luma, alf-without, alf-with}
-use Rattle.aps.proofs.StopLaws.{ends-more}
 use Rattle.aps.proofs.alf.parse_alf_data.Statement.{statement}
 use Rattle.aps.proofs.alf.parse_alf_data.Tie as tie
 
@@ -18,10 +16,8 @@ no-alf-requires c κs = search needs
 
 returns : tie.Need-returns
 returns c =
-    let a = c .before .before .before .before .before .args in (
-      rw (c .no-alf .ensures, c .before .before .before .if1 .taken) (sym (alf-lacking (now (a .bytes)) (a .p) (sym (c .before .before .lacks-bits .ensures) ∙ c .before .if2 .taken))),
-      rw (c .no-alf .ensures) tt,
-    )
+    let a = c .before .before .before .before .before .args in
+    rw (c .no-alf .ensures, c .before .before .before .if1 .taken) (sym (alf-lacking (now (a .bytes)) (a .p) (sym (c .before .before .lacks-bits .ensures) ∙ c .before .if2 .taken)))
 
 read-flag-requires : tie.Need-read-flag-requires
 read-flag-requires c κs = search needs
@@ -48,7 +44,10 @@ add-read-alf-filters : tie.Need-add-read-alf-filters
 add-read-alf-filters c = search needs
 
 read-alf-filters-requires : tie.Need-read-alf-filters-requires
-read-alf-filters-requires c κs = search needs
+read-alf-filters-requires c κs =
+    let d = c .before .before .before .before in
+    let b = d .before .before .before .before in
+    (b .pre .0, lacks-none (now (b .args .bytes)) (b .args .p) 4 (omega arith) (sym (d .before .lacks-bits .ensures) ∙ d .if2 .left))
 
 returns-2 : tie.Need-returns-2
 returns-2 c =
@@ -58,11 +57,9 @@ returns-2 c =
     let k = c .before .before .before .read-flag2 in
     let l = c .before .before .before .before .read-flag in
     let e = c .before .before .before .before .before in
-    let a = e .before .before .before .before .args in (
-      rw (e .before .before .if1 .taken)
-          (d .ensures .0 ∙ sym (alf-with (now (a .bytes)) (a .p) (l .result) (l .ensures) (sym (e .before .lacks-bits .ensures) ∙ e .if2 .left) (k .result) (b .result) (r .result) (k .ensures) (b .ensures) (r .ensures))),
-      ends-more (outcomeStop (d .result .stop) (d .result .alf)) (a .p + 4 + 24246) (a .p + 30000) (d .ensures .1) (omega arith),
-    )
+    let a = e .before .before .before .before .args in
+    rw (e .before .before .if1 .taken)
+    (d .ensures ∙ sym (alf-with (now (a .bytes)) (a .p) (l .result) (l .ensures) (sym (e .before .lacks-bits .ensures) ∙ e .if2 .left) (k .result) (b .result) (r .result) (k .ensures) (b .ensures) (r .ensures)))
 
 lacks-bits-requires-2 : tie.Need-lacks-bits-requires-2
 lacks-bits-requires-2 c κs = search needs
@@ -72,10 +69,8 @@ no-alf-requires-2 c κs = search needs
 
 returns-3 : tie.Need-returns-3
 returns-3 c =
-    let a = c .before .before .before .before .before .args in (
-      rw (c .no-alf2 .ensures, c .before .before .before .if1 .left) (sym (alf-lacking-luma (now (a .bytes)) (a .p) (sym (c .before .before .lacks-bits2 .ensures) ∙ c .before .if3 .taken))),
-      rw (c .no-alf2 .ensures) tt,
-    )
+    let a = c .before .before .before .before .before .args in
+    rw (c .no-alf2 .ensures, c .before .before .before .if1 .left) (sym (alf-lacking-luma (now (a .bytes)) (a .p) (sym (c .before .before .lacks-bits2 .ensures) ∙ c .before .if3 .taken)))
 
 read-flag-requires-5 : tie.Need-read-flag-requires-5
 read-flag-requires-5 c κs = search needs
@@ -84,17 +79,18 @@ add-read-alf-filters-2 : tie.Need-add-read-alf-filters-2
 add-read-alf-filters-2 c = search needs
 
 read-alf-filters-requires-2 : tie.Need-read-alf-filters-requires-2
-read-alf-filters-requires-2 c κs = search needs
+read-alf-filters-requires-2 c κs =
+    let d = c .before in
+    let b = d .before .before .before .before in
+    (b .pre .0, lacks-none (now (b .args .bytes)) (b .args .p) 1 (omega arith) (sym (d .before .lacks-bits2 .ensures) ∙ d .if3 .left))
 
 returns-4 : tie.Need-returns-4
 returns-4 c =
     let d = c .read-alf-filters2 in
     let l = c .before .read-flag5 in
     let e = c .before .before in
-    let a = e .before .before .before .before .args in (
-      rw (e .before .before .if1 .left) (d .ensures .0 ∙ sym (alf-without (now (a .bytes)) (a .p) (l .result) (l .ensures) (sym (e .before .lacks-bits2 .ensures) ∙ e .if3 .left))),
-      ends-more (outcomeStop (d .result .stop) (d .result .alf)) (a .p + 1 + 24246) (a .p + 30000) (d .ensures .1) (omega arith),
-    )
+    let a = e .before .before .before .before .args in
+    rw (e .before .before .if1 .left) (d .ensures ∙ sym (alf-without (now (a .bytes)) (a .p) (l .result) (l .ensures) (sym (e .before .lacks-bits2 .ensures) ∙ e .if3 .left)))
 
 pub parse-alf-data-spec : {M : Type 1} → statement M
 parse-alf-data-spec =

@@ -2,13 +2,12 @@
 use borrow.Author.Needs.{needs}
 use mathlib.Core.Path.{refl, sym, _∙_}
 use mathlib.Core.Bool.{true}
-use Prim.Native.Nat.{_+_}
 use native.Mathlib.Omega.{arith}
 use denote.Ref.{now}
 use Rattle.aps.specs.AlfSyntax.{ccSyntax, toCc, fromCc, noCc}
 use Rattle.aps.specs.AlfSyntax as Alf
 use Rattle.aps.proofs.AlfSteps.{via-absent}
-use Rattle.aps.proofs.StopLaws.{after-end, spans-end, ends-stops, spans-from}
+use Rattle.aps.proofs.StopLaws.{after-end}
 use Rattle.aps.proofs.alf.read_cc_if.Statement.{statement}
 use Rattle.aps.proofs.alf.read_cc_if.Tie as tie
 
@@ -25,10 +24,7 @@ returns : tie.Need-returns
 returns c =
     let d = c .read-cc in
     let f = c .before .before .before in
-    let p = f .from .given .0 .0 in (
-      rw (c .before .if1 .taken) (d .ensures .0) ∙ sym (after-end _ (f .from .given .1)),
-      spans-from p (d .result .stop) 175 (f .from .given .1) (ends-stops (d .result .stop) (p + 175) (d .result .cc) (d .ensures .1)),
-    )
+    rw (c .before .if1 .taken) (d .ensures) ∙ sym (after-end _ (f .from .given .1))
 
 no-cc-requires : tie.Need-no-cc-requires
 no-cc-requires c κs = search needs
@@ -44,13 +40,11 @@ unfolding Alf.cc
 returns-2 c =
     let f = c .before .before .before in
     let a = f .before .before .before .args in
-    let p = f .from .given .0 .0 in (
-      rw (c .before .if1 .left, via-absent toCc fromCc (λ d. true) noCc ccSyntax (now (a .bytes)) p, c .no-cc .ensures) refl ∙ sym (after-end _ (f .from .given .1)),
-      spans-end p p 175 (f .from .given .1) (omega arith),
-    )
+    let p = f .from .given .0 .0 in
+    rw (c .before .if1 .left, via-absent toCc fromCc (λ d. true) noCc ccSyntax (now (a .bytes)) p, c .no-cc .ensures) refl ∙ sym (after-end _ (f .from .given .1))
 
 returns-3 : tie.Need-returns-3
-returns-3 c = (rw (c .before .before .from2 .given .1), λ m h. tt)
+returns-3 c = rw (c .before .before .from2 .given .1)
 
 pub read-cc-if-spec : {M : Type 1} → statement M
 read-cc-if-spec =

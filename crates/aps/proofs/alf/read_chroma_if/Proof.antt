@@ -1,14 +1,13 @@
 -- `read_chroma_if`: a refusal stays, and the record is inferred where the flag is not set.
 use borrow.Author.Needs.{needs}
 use mathlib.Core.Path.{refl, sym, _∙_}
-use Prim.Native.Nat.{_+_}
 use native.Mathlib.Omega.{arith}
 use denote.Ref.{now}
 use lib.Dec.{eqb}
 use lib.ListN.{length}
 use Rattle.aps.specs.AlfSyntax.{chroma, chromaSyntax, toChroma, fromChroma, noChroma}
 use Rattle.aps.proofs.AlfSteps.{via-absent}
-use Rattle.aps.proofs.StopLaws.{after-end, spans-end, ends-stops, spans-from}
+use Rattle.aps.proofs.StopLaws.{after-end}
 use Rattle.aps.proofs.alf.read_chroma_if.Statement.{statement}
 use Rattle.aps.proofs.alf.read_chroma_if.Tie as tie
 
@@ -25,10 +24,7 @@ returns : tie.Need-returns
 returns c =
     let d = c .read-chroma in
     let f = c .before .before .before in
-    let p = f .from .given .0 .0 in (
-      rw (c .before .if1 .taken) (d .ensures .0) ∙ sym (after-end _ (f .from .given .1)),
-      spans-from p (d .result .stop) 3232 (f .from .given .1) (ends-stops (d .result .stop) (p + 3232) (d .result .chroma) (d .ensures .1)),
-    )
+    rw (c .before .if1 .taken) (d .ensures) ∙ sym (after-end _ (f .from .given .1))
 
 no-chroma-requires : tie.Need-no-chroma-requires
 no-chroma-requires c κs = search needs
@@ -44,13 +40,11 @@ unfolding chroma
 returns-2 c =
     let f = c .before .before .before in
     let a = f .before .before .before .args in
-    let p = f .from .given .0 .0 in (
-      rw (c .before .if1 .left, via-absent toChroma fromChroma (λ d. eqb (length (d .«coeff_abs»)) (length (d .«coeff_sign»))) noChroma chromaSyntax (now (a .bytes)) p, c .no-chroma .ensures) refl ∙ sym (after-end _ (f .from .given .1)),
-      spans-end p p 3232 (f .from .given .1) (omega arith),
-    )
+    let p = f .from .given .0 .0 in
+    rw (c .before .if1 .left, via-absent toChroma fromChroma (λ d. eqb (length (d .«coeff_abs»)) (length (d .«coeff_sign»))) noChroma chromaSyntax (now (a .bytes)) p, c .no-chroma .ensures) refl ∙ sym (after-end _ (f .from .given .1))
 
 returns-3 : tie.Need-returns-3
-returns-3 c = (rw (c .before .before .from2 .given .1), λ m h. tt)
+returns-3 c = rw (c .before .before .from2 .given .1)
 
 pub read-chroma-if-spec : {M : Type 1} → statement M
 read-chroma-if-spec =

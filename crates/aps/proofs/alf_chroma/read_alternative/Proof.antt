@@ -1,11 +1,12 @@
 -- `read_alternative`: six coefficients, and at once six clips.
 use borrow.Author.Needs.{needs}
 use mathlib.Core.Path.{refl}
-use Prim.Native.Nat.{_+_, _*_}
 use native.Mathlib.Omega.{arith}
 use denote.Ref.{now}
 use Rattle.aps.proofs.AlternativeSteps.{alternative-from}
-use Rattle.aps.proofs.StopLaws.{stops-more}
+use Rattle.aps.specs.declared.fields.Stop.the-variants as Stop
+use Rattle.aps.proofs.AlfSteps.{first-coefficients}
+use Rattle.aps.proofs.Bounds.{stops-inside}
 use Rattle.aps.proofs.alf_chroma.read_alternative.Statement.{statement}
 use Rattle.aps.proofs.alf_chroma.read_alternative.Tie as tie
 
@@ -27,8 +28,9 @@ slice-aggregate-read-clips c = search needs
 read-clips-requires : tie.Need-read-clips-requires
 read-clips-requires c κs =
     let k = c .before .before .before .before in
-    let p = k .before .before .before .before .args .p in
-    (omega arith, stops-more (k .read-coefficients .result) (p + 64 * 6) 200000 (k .read-coefficients .ensures .1 p (omega arith)) (omega arith), omega arith, omega arith, refl)
+    let b = k .before .before .before .before in
+    let e = k .read-coefficients in
+    (b .pre .0, stops-inside (first-coefficients 6 6) (now (b .args .bytes)) (Stop.End (b .args .p)) (e .result) (e .last .1 .1 .1 .0, e .last .1 .1 .1 .1 .0) (e .ensures) (b .pre .1), omega arith, omega arith, refl)
 
 returns : tie.Need-returns
 returns c =
@@ -36,10 +38,8 @@ returns c =
     let w = c .before .before .before .clips-sent in
     let k = c .before .before .before .before .before .before in
     let e = k .read-coefficients in
-    let a = k .before .before .before .before .args in (
-      alternative-from (now (a .bytes)) (a .p) (a .clip) (e .result) (d .result) (e .last .1 .1 .1 .0) (e .last .1 .1 .1 .1 .0) (d .last .1 .1 .1 .0) (w .result) (w .ensures .0) (e .ensures .0) (d .ensures .0),
-      stops-more (d .result) (a .p + 64 * 6 + 2 * w .result) (a .p + 396) (d .ensures .1 (a .p + 64 * 6) (e .ensures .1 (a .p) (omega arith))) (omega arith),
-    )
+    let a = k .before .before .before .before .args in
+    alternative-from (now (a .bytes)) (a .p) (a .clip) (e .result) (d .result) (e .last .1 .1 .1 .0) (e .last .1 .1 .1 .1 .0) (d .last .1 .1 .1 .0) (w .result) (w .ensures .0) (e .ensures) (d .ensures)
 
 pub read-alternative-spec : {M : Type 1} → statement M
 read-alternative-spec =

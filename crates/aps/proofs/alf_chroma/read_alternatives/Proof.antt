@@ -11,13 +11,15 @@ use Rattle.bitstream.specs.Outcome.{number}
 use Rattle.aps.specs.Elements.{zipped}
 use Rattle.aps.specs.Inner.{outcomeStop}
 use Rattle.aps.specs.declared.fields.Stop.{Stop}
+use Rattle.aps.proofs.AlfLaws.{alternative-law}
+use Rattle.aps.proofs.CodecLaws.{inside}
 use Rattle.aps.proofs.AlternativeSteps.{Rows, rows-from, rows-more, rows-refused, rows-done}
 use Rattle.aps.proofs.alf_chroma.read_alternatives.Statement.{statement}
 use Rattle.aps.proofs.alf_chroma.read_alternatives.Tie as tie
 
 abbrev Inv-loop : tie.InvT-loop
 Inv-loop bytes p clip count-minus1 abs₀ sign₀ clips₀ at₀ row₀ abs sign clips at row =
-    (row ≤ count-minus1 + 1) × (at ≤ p + 396 * row) × Rows clip count-minus1 bytes p row abs sign clips at
+    (row ≤ count-minus1 + 1) × (at ≤ length bytes * 8) × Rows clip count-minus1 bytes p row abs sign clips at
 
 abbrev μ-loop : tie.MeasureT-loop
 μ-loop bytes p clip count-minus1 abs₀ sign₀ clips₀ at₀ row₀ abs sign clips at row = count-minus1 + 1 - row
@@ -26,7 +28,7 @@ loop-holds : tie.Need-loop-holds Inv-loop μ-loop
 loop-holds c =
     let b = c .before in
     let a = b .args in
-    (omega arith, omega arith, rows-from (a .clip) (a .count-minus1) (now (a .bytes)) (a .p) (a .abs .now) (a .sign .now) (a .clips .now) (b .pre .3) (b .pre .4) (b .pre .5))
+    (omega arith, b .pre .1, rows-from (a .clip) (a .count-minus1) (now (a .bytes)) (a .p) (a .abs .now) (a .sign .now) (a .clips .now) (b .pre .3) (b .pre .4) (b .pre .5))
 
 read-alternative-requires : tie.Need-read-alternative-requires Inv-loop μ-loop
 read-alternative-requires c κs = (omega arith, omega arith)
@@ -45,10 +47,8 @@ returns c =
     let k = c .before .before .before .read-alternative in
     let g = c .before .stop2 .given in
     let x : List (ℕ × Bool) × List ℕ = (zipped (k .result .abs) (k .result .sign), k .result .clip) in
-    let e = sym (ap (λ (t : Stop). outcomeStop t x) (g .1)) ∙ k .ensures .0 in (
-      rows-refused (a .clip) (a .count-minus1) (now (a .bytes)) (a .p) (o .row) (o .abs) (o .sign) (o .clips) (o .at) (o .inv .2) (number (g .0 .0)) (omega arith) (omega arith) e,
-      tt,
-    )
+    let e = sym (ap (λ (t : Stop). outcomeStop t x) (g .1)) ∙ k .ensures in
+    rows-refused (a .clip) (a .count-minus1) (now (a .bytes)) (a .p) (o .row) (o .abs) (o .sign) (o .clips) (o .at) (o .inv .2) (number (g .0 .0)) (omega arith) (omega arith) e
 
 keep-alternative-requires : tie.Need-keep-alternative-requires Inv-loop μ-loop
 keep-alternative-requires c κs = omega arith
@@ -73,11 +73,10 @@ loop-again c =
     let d = c .keep-alternative in
     let sent : o .row ≤ a .count-minus1 = c .before .before .before .before .before .before .before .before .loop-test .taken in
     let most : a .count-minus1 ≤ 7 = l .before .before .pre .2 in
-    let near : o .at ≤ a .p + 396 * o .row = o .inv .1 in
     let x : List (ℕ × Bool) × List ℕ = (zipped (r .abs) (r .sign), r .clip) in
-    let e = sym (ap (λ (t : Stop). outcomeStop t x) (g .1)) ∙ k .ensures .0 in (
+    let e = sym (ap (λ (t : Stop). outcomeStop t x) (g .1)) ∙ k .ensures in (
       omega arith,
-      omega (arith, rw (g .1) at (k .ensures .1)),
+      inside (alternative-law (a .clip) 0 0) _ _ _ _ (sym e) (o .inv .1),
       rows-more (a .clip) (a .count-minus1) (now (a .bytes)) (a .p) (o .row) (o .abs) (o .sign) (o .clips) (o .at) (o .inv .2)
           (r .abs) (r .sign) (r .clip) n m w (omega arith) (d .last .1 .1 .0) (d .last .1 .1 .1 .0) (d .last .1 .1 .1 .1 .0) (g .0 .0) (omega arith) e (d .ensures .0) (d .ensures .1) (d .ensures .2),
     )
@@ -87,7 +86,7 @@ returns-2 c =
     let l = c .before in
     let a = l .before .before .args in
     let o = l .loop in
-    (rows-done (a .clip) (a .count-minus1) (now (a .bytes)) (a .p) (o .row) (o .abs) (o .sign) (o .clips) (o .at) (o .inv .2) (omega arith) (omega arith), omega arith)
+    rows-done (a .clip) (a .count-minus1) (now (a .bytes)) (a .p) (o .row) (o .abs) (o .sign) (o .clips) (o .at) (o .inv .2) (omega arith) (omega arith)
 
 pub read-alternatives-spec : {M : Type 1} → statement M
 read-alternatives-spec =

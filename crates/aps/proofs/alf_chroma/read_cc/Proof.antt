@@ -3,13 +3,14 @@ use borrow.Author.Needs.{needs}
 use mathlib.Core.Path.{refl, sym, ap, _∙_}
 use mathlib.Core.Bool.{Bool}
 use mathlib.Core.List.{List}
-use Prim.Native.Nat.{ℕ, _+_}
-use native.Mathlib.Omega.{arith}
+use Prim.Native.Nat.{ℕ}
 use denote.Ref.{now}
 use Rattle.bitstream.specs.Reading.{outcomeU}
 use Rattle.aps.specs.AlfSyntax.{toCc}
 use Rattle.aps.proofs.AlfSteps.{ueTo-most, cc-read}
-use Rattle.aps.proofs.StopLaws.{map-stop, stops-more, stops-ends}
+use Rattle.aps.proofs.StopLaws.{map-stop}
+use Rattle.aps.proofs.Bounds.{ueTo-any}
+use Rattle.aps.proofs.CodecLaws.{inside}
 use Rattle.aps.proofs.alf_chroma.read_cc.Statement.{statement}
 use Rattle.aps.proofs.alf_chroma.read_cc.Tie as tie
 
@@ -23,10 +24,11 @@ read-cc-coefficients-requires : tie.Need-read-cc-coefficients-requires
 read-cc-coefficients-requires c κs =
     let g = c .before .before .before .count .given in
     let k = c .before .before .before .before .before in
-    let a = k .before .before .args in (
-      omega arith,
-      omega (arith, rw (g .1) at (k .read-ue-to .ensures .1)),
-      ueTo-most 3 (now (a .bytes)) (a .p) (g .0 .0) (g .0 .1 .0 .«bit_pos») (sym (ap outcomeU (g .1)) ∙ k .read-ue-to .ensures .0),
+    let b = k .before .before in
+    let e = sym (k .read-ue-to .ensures) ∙ ap outcomeU (g .1) in (
+      b .pre .0,
+      inside (ueTo-any 3) (now (b .args .bytes)) (b .args .p) _ _ e (b .pre .1),
+      ueTo-most 3 (now (b .args .bytes)) (b .args .p) _ _ (sym e),
       refl,
       refl,
     )
@@ -43,19 +45,15 @@ returns c =
     let d = c .read-cc-coefficients in
     let g = c .before .before .before .before .count .given in
     let k = c .before .before .before .before .before .before in
-    let q = g .0 .1 .0 .«bit_pos» in
-    let p = k .before .before .args .p in
-    let count = sym (k .read-ue-to .ensures .0) ∙ ap outcomeU (g .1) in
-    let coeff : List ℕ × List Bool = (d .last .1 .1 .1 .0, d .last .1 .1 .1 .1 .0) in (
-      map-stop (λ x. toCc (g .0 .0, x)) (d .result) coeff (d .ensures .0) ∙ sym (rw (cc-read, count)),
-      stops-ends (d .result) (p + 175) _ (stops-more (d .result) (q + 112) (p + 175) (d .ensures .1) (omega (arith, rw (g .1) at (k .read-ue-to .ensures .1)))),
-    )
+    let count = sym (k .read-ue-to .ensures) ∙ ap outcomeU (g .1) in
+    let coeff : List ℕ × List Bool = (d .last .1 .1 .1 .0, d .last .1 .1 .1 .1 .0) in
+    map-stop (λ x. toCc (g .0 .0, x)) (d .result) coeff (d .ensures) ∙ sym (rw (cc-read, count))
 
 returns-2 : tie.Need-returns-2
 returns-2 c =
     let k = c .before .before .before .before .read-ue-to in
-    let count = sym (k .ensures .0) ∙ ap outcomeU (c .before .before .count2 .given .1) in
-    (rw (cc-read, count), tt)
+    let count = sym (k .ensures) ∙ ap outcomeU (c .before .before .count2 .given .1) in
+    rw (cc-read, count)
 
 pub read-cc-spec : {M : Type 1} → statement M
 read-cc-spec =

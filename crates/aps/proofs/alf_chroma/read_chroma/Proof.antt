@@ -10,7 +10,9 @@ use Rattle.bitstream.specs.Reading.{outcomeU}
 use Rattle.aps.specs.AlfSyntax.{chroma, chromaSyntax, alternatives, toChroma, fromChroma, noChroma}
 use Rattle.aps.proofs.AlfSteps.{ueTo-most, head-lacking, head-value, head-refused}
 use Rattle.aps.proofs.AlternativeSteps.{chroma-of-arrays}
-use Rattle.aps.proofs.StopLaws.{stops-more, stops-ends}
+use Rattle.aps.proofs.Bounds.{ueTo-any}
+use Rattle.aps.proofs.CodecLaws.{inside}
+use Rattle.aps.proofs.FieldLaws.{lacks-none}
 use Rattle.aps.proofs.alf_chroma.read_chroma.Statement.{statement}
 use Rattle.aps.proofs.alf_chroma.read_chroma.Tie as tie
 
@@ -24,7 +26,7 @@ returns : tie.Need-returns
 unfolding chroma chromaSyntax
 returns c =
     let a = c .before .before .before .before .args in
-    (sym (head-lacking toChroma fromChroma (λ d. eqb (length (d .«coeff_abs»)) (length (d .«coeff_sign»))) noChroma 7 alternatives (now (a .bytes)) (a .p) (sym (c .before .before .lacks-bits .ensures) ∙ c .before .if1 .taken)), tt)
+    sym (head-lacking toChroma fromChroma (λ d. eqb (length (d .«coeff_abs»)) (length (d .«coeff_sign»))) noChroma 7 alternatives (now (a .bytes)) (a .p) (sym (c .before .before .lacks-bits .ensures) ∙ c .before .if1 .taken))
 
 read-flag-requires : tie.Need-read-flag-requires
 read-flag-requires c κs = search needs
@@ -33,7 +35,9 @@ add-read-ue-to : tie.Need-add-read-ue-to
 add-read-ue-to c = search needs
 
 read-ue-to-requires : tie.Need-read-ue-to-requires
-read-ue-to-requires c κs = search needs
+read-ue-to-requires c κs =
+    let b = c .before .before .before .before in
+    (b .pre .0, lacks-none (now (b .args .bytes)) (b .args .p) 1 (omega arith) (sym (c .before .before .lacks-bits .ensures) ∙ c .before .if1 .left))
 
 enum-known-count : tie.Need-enum-known-count
 enum-known-count c = search needs
@@ -42,10 +46,13 @@ read-alternatives-requires : tie.Need-read-alternatives-requires
 read-alternatives-requires c κs =
     let g = c .before .before .before .before .count .given in
     let k = c .before .before .before .before .before .before in
-    let a = k .before .before .before .before .before .args in (
-      omega arith,
-      omega (arith, rw (g .1) at (k .read-ue-to .ensures .1)),
-      ueTo-most 7 (now (a .bytes)) (a .p + 1) (g .0 .0) (g .0 .1 .0 .«bit_pos») (sym (ap outcomeU (g .1)) ∙ k .read-ue-to .ensures .0),
+    let b = k .before .before .before .before .before in
+    let s = now (b .args .bytes) in
+    let e = sym (k .read-ue-to .ensures) ∙ ap outcomeU (g .1) in
+    let there = lacks-none s (b .args .p) 1 (omega arith) (sym (k .before .before .before .lacks-bits .ensures) ∙ k .before .before .if1 .left) in (
+      b .pre .0,
+      inside (ueTo-any 7) s (b .args .p + 1) _ _ e there,
+      ueTo-most 7 s (b .args .p + 1) _ _ (sym e),
       refl,
       refl,
       refl,
@@ -68,22 +75,18 @@ returns-2 c =
     let clip = k .before .read-flag .result in
     let n = g .0 .0 in
     let q = g .0 .1 .0 .«bit_pos» in
-    let count = sym (k .read-ue-to .ensures .0) ∙ ap outcomeU (g .1) in
-    let l = d .last .1 .1 .1 .1 in (
-      chroma-of-arrays clip n (d .result) (l .0) (l .1 .0) (l .1 .1 .0) ((alternatives clip n) .read s q) (d .ensures .0)
-          ∙ sym (head-value toChroma fromChroma (λ d. eqb (length (d .«coeff_abs»)) (length (d .«coeff_sign»))) noChroma 7 alternatives s (a .p) (sym (k .before .before .before .lacks-bits .ensures) ∙ k .before .before .if1 .left) clip n q (k .before .read-flag .ensures) count),
-      stops-ends (d .result) (a .p + 3232) _ (stops-more (d .result) (q + 3168) (a .p + 3232) (d .ensures .1) (omega (arith, rw (g .1) at (k .read-ue-to .ensures .1)))),
-    )
+    let count = sym (k .read-ue-to .ensures) ∙ ap outcomeU (g .1) in
+    let l = d .last .1 .1 .1 .1 in
+    chroma-of-arrays clip n (d .result) (l .0) (l .1 .0) (l .1 .1 .0) ((alternatives clip n) .read s q) (d .ensures)
+    ∙ sym (head-value toChroma fromChroma (λ d. eqb (length (d .«coeff_abs»)) (length (d .«coeff_sign»))) noChroma 7 alternatives s (a .p) (sym (k .before .before .before .lacks-bits .ensures) ∙ k .before .before .if1 .left) clip n q (k .before .read-flag .ensures) count)
 
 returns-3 : tie.Need-returns-3
 unfolding chroma chromaSyntax
 returns-3 c =
     let k = c .before .before .before .before in
     let a = k .before .before .before .before .before .args in
-    let count = sym (k .read-ue-to .ensures .0) ∙ ap outcomeU (c .before .before .count2 .given .1) in (
-      sym (head-refused toChroma fromChroma (λ d. eqb (length (d .«coeff_abs»)) (length (d .«coeff_sign»))) noChroma 7 alternatives (now (a .bytes)) (a .p) (sym (k .before .before .before .lacks-bits .ensures) ∙ k .before .before .if1 .left) _ count),
-      tt,
-    )
+    let count = sym (k .read-ue-to .ensures) ∙ ap outcomeU (c .before .before .count2 .given .1) in
+    sym (head-refused toChroma fromChroma (λ d. eqb (length (d .«coeff_abs»)) (length (d .«coeff_sign»))) noChroma 7 alternatives (now (a .bytes)) (a .p) (sym (k .before .before .before .lacks-bits .ensures) ∙ k .before .before .if1 .left) _ count)
 
 pub read-chroma-spec : {M : Type 1} → statement M
 read-chroma-spec =

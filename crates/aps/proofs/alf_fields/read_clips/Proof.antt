@@ -14,7 +14,7 @@ use Rattle.aps.specs.Elements.{noNumber}
 use Rattle.aps.proofs.FieldSteps.{lacks-part, u-here, each-lacking}
 use Rattle.aps.proofs.Steps.{when-read, Reading, reading-more, reading-done}
 use Rattle.aps.proofs.AlfSteps.{reading-from}
-use Rattle.aps.proofs.StopLaws.{after-end, spans-end}
+use Rattle.aps.proofs.StopLaws.{after-end}
 use Rattle.aps.proofs.alf_fields.read_clips.Statement.{statement}
 use Rattle.aps.proofs.alf_fields.read_clips.Tie as tie
 
@@ -34,7 +34,7 @@ enum-known-from-2 : tie.Need-enum-known-from-2 Inv-loop μ-loop
 enum-known-from-2 c = search needs
 
 returns : tie.Need-returns Inv-loop μ-loop
-returns c = (rw (c .before .from2 .given .1), λ m h. tt)
+returns c = rw (c .before .from2 .given .1)
 
 mul-lacks-bits : tie.Need-mul-lacks-bits Inv-loop μ-loop
 mul-lacks-bits c = omega arith
@@ -46,12 +46,10 @@ lacks-bits-requires c κs =
 returns-2 : tie.Need-returns-2 Inv-loop μ-loop
 returns-2 c =
     let f = c .before .before .before in
-    let a = f .before .before .before .before .args in (
-      sym (after-end _ (f .from .given .1)
-          ∙ each-lacking (entry (a .n)) 2 0 (a .n) (length (a .clip .now)) (now (a .bytes)) (f .from .given .0 .0) (omega arith) (λ j q h b. rw (when-read, lt-ltb j (a .n) (omega arith)))
-          (sym (c .before .lacks-bits .ensures) ∙ c .if1 .taken)),
-      λ m h. tt,
-    )
+    let a = f .before .before .before .before .args in
+    sym (after-end _ (f .from .given .1)
+    ∙ each-lacking (entry (a .n)) 2 0 (a .n) (length (a .clip .now)) (now (a .bytes)) (f .from .given .0 .0) (omega arith) (λ j q h b. rw (when-read, lt-ltb j (a .n) (omega arith)))
+    (sym (c .before .lacks-bits .ensures) ∙ c .if1 .taken))
 
 loop-holds : tie.Need-loop-holds Inv-loop μ-loop
 loop-holds c =
@@ -122,12 +120,10 @@ returns-3 c =
     let a = f .before .before .before .before .args in
     let p = f .from .given .0 .0 in
     let o = l .loop in
-    let i : o .i ≡ a .n = omega arith in (
-      sym (after-end _ (f .from .given .1)
-          ∙ rw i at (reading-done (entry (a .n)) (length (a .clip .now)) 0 (now (a .bytes)) p (o .i) (o .clip) (p + 2 * o .i) (o .inv .1) (omega arith)
-          (λ j h b. rw (when-read, le-ltb j (a .n) (omega arith))))),
-      spans-end p (p + 2 * a .n) (2 * a .n) (f .from .given .1) (omega arith),
-    )
+    let i : o .i ≡ a .n = omega arith in
+    sym (after-end _ (f .from .given .1)
+    ∙ rw i at (reading-done (entry (a .n)) (length (a .clip .now)) 0 (now (a .bytes)) p (o .i) (o .clip) (p + 2 * o .i) (o .inv .1) (omega arith)
+    (λ j h b. rw (when-read, le-ltb j (a .n) (omega arith)))))
 
 pub read-clips-spec : {M : Type 1} → statement M
 read-clips-spec =

@@ -2,7 +2,7 @@
 use mathlib.Core.Path.{_≡_, sym, ap, _∙_}
 use mathlib.Core.Bool.{Bool, false}
 use mathlib.Core.List.{List}
-use Prim.Native.Nat.{ℕ, _+_, _-_, _*_, _≤_}
+use Prim.Native.Nat.{ℕ, _-_, _*_, _≤_}
 use native.Mathlib.Omega.{arith}
 use borrow.Author.Needs.{needs}
 use borrow.Author.Tests.{lt-ltb, le-ltb}
@@ -15,8 +15,10 @@ use Rattle.aps.specs.Elements.{noSigned}
 use Rattle.aps.specs.AlfSyntax.{coefficient}
 use Rattle.aps.specs.Inner.{outcomeSigned}
 use Rattle.aps.proofs.Steps.{when-read, Reading2, reading2-more, reading2-done, reading2-refused}
+use Rattle.aps.proofs.AlfLaws.{coefficient-law}
 use Rattle.aps.proofs.AlfSteps.{reading2-from}
-use Rattle.aps.proofs.StopLaws.{after-end, spans-end}
+use Rattle.aps.proofs.CodecLaws.{inside}
+use Rattle.aps.proofs.StopLaws.{after-end}
 use Rattle.aps.proofs.alf_fields.read_coefficients.Statement.{statement}
 use Rattle.aps.proofs.alf_fields.read_coefficients.Tie as tie
 
@@ -29,7 +31,7 @@ signs-length : {k : ℕ → Codec (ℕ × Bool)} {N : ℕ} {s : List ℕ} {p i :
 signs-length {N = N} sign sign₀ R e = R .size′ ∙ sym (ap length e ∙ length-replicate N false)
 
 abbrev Inv-loop : tie.InvT-loop
-Inv-loop bytes n abs₀ sign₀ at₀ i₀ abs sign at i = (i ≤ n) × (at ≤ at₀ + 64 * i) × Reading2 (entry n) (length abs₀) 0 false bytes at₀ i abs sign at
+Inv-loop bytes n abs₀ sign₀ at₀ i₀ abs sign at i = (i ≤ n) × (at ≤ length bytes * 8) × Reading2 (entry n) (length abs₀) 0 false bytes at₀ i abs sign at
 
 abbrev μ-loop : tie.MeasureT-loop
 μ-loop bytes n abs₀ sign₀ at₀ i₀ abs sign at i = n - i
@@ -41,19 +43,16 @@ enum-known-from-2 : tie.Need-enum-known-from-2 Inv-loop μ-loop
 enum-known-from-2 c = search needs
 
 returns : tie.Need-returns Inv-loop μ-loop
-returns c = (rw (c .before .from2 .given .1), λ m h. tt)
+returns c = rw (c .before .from2 .given .1)
 
 loop-holds : tie.Need-loop-holds Inv-loop μ-loop
 loop-holds c =
     let b = c .before .before .before .before .before .before in
     let a = b .args in
-    (omega arith, omega arith, reading2-from (entry (a .n)) (length (a .abs .now)) 0 false (now (a .bytes)) (c .before .from .given .0 .0) (a .abs .now) (a .sign .now) (b .pre .4) (b .pre .5))
+    (omega arith, rw (c .before .from .given .1) at (b .pre .1), reading2-from (entry (a .n)) (length (a .abs .now)) 0 false (now (a .bytes)) (c .before .from .given .0 .0) (a .abs .now) (a .sign .now) (b .pre .4) (b .pre .5))
 
 read-coefficient-requires : tie.Need-read-coefficient-requires Inv-loop μ-loop
-read-coefficient-requires c κs =
-    let f = c .before .before .before in
-    let b = f .before .before .before .before .before in
-    (omega arith, omega (arith, rw (f .from .given .1) at (b .pre .1)))
+read-coefficient-requires c κs = (c .before .before .before .before .before .before .before .before .pre .0, c .before .loop .inv .1)
 
 enum-known-field : tie.Need-enum-known-field Inv-loop μ-loop
 enum-known-field c = search needs
@@ -87,11 +86,9 @@ returns-2 c =
     let k = c .before .before .before .read-coefficient in
     let g = c .before .field2 .given in
     let e : (entry (a .n) (o .i)) .read (now (a .bytes)) (o .at) ≡ refused (number (g .0 .0))
-    = rw (when-read, lt-ltb (o .i) (a .n) (omega arith)) (sym (k .ensures .0) ∙ ap outcomeSigned (g .1)) in (
-      sym (after-end _ (f .from .given .1)
-          ∙ reading2-refused (entry (a .n)) (length (a .abs .now)) 0 false (now (a .bytes)) (f .from .given .0 .0) (o .i) (o .abs) (o .sign) (o .at) (o .inv .2) (number (g .0 .0)) (omega arith) e),
-      λ m h. tt,
-    )
+    = rw (when-read, lt-ltb (o .i) (a .n) (omega arith)) (sym (k .ensures) ∙ ap outcomeSigned (g .1)) in
+    sym (after-end _ (f .from .given .1)
+    ∙ reading2-refused (entry (a .n)) (length (a .abs .now)) 0 false (now (a .bytes)) (f .from .given .0 .0) (o .i) (o .abs) (o .sign) (o .at) (o .inv .2) (number (g .0 .0)) (omega arith) e)
 
 add-i : tie.Need-add-i Inv-loop μ-loop
 add-i c = omega arith
@@ -107,10 +104,11 @@ loop-again c =
     let o = l .loop in
     let k = c .before .before .before .read-coefficient in
     let g = c .before .field .given in
+    let r = sym (k .ensures) ∙ ap outcomeSigned (g .1) in
     let e : (entry (a .n) (o .i)) .read (now (a .bytes)) (o .at) ≡ value (g .0 .0, g .0 .1 .0) (g .0 .1 .1 .0)
-    = rw (when-read, lt-ltb (o .i) (a .n) (omega arith)) (sym (k .ensures .0) ∙ ap outcomeSigned (g .1)) in (
+    = rw (when-read, lt-ltb (o .i) (a .n) (omega arith)) r in (
       omega arith,
-      omega (arith, rw (g .1) at (k .ensures .1)),
+      inside coefficient-law _ _ _ _ r (o .inv .1),
       reading2-more (entry (a .n)) (length (a .abs .now)) 0 false (now (a .bytes)) (f .from .given .0 .0) (o .i) (o .abs) (o .sign) (o .at) (o .inv .2)
           (g .0 .0) (g .0 .1 .0) (g .0 .1 .1 .0) (omega arith) e,
     )
@@ -128,12 +126,10 @@ returns-3 c =
     let l = c .before in
     let f = l .before .before in
     let a = f .before .before .before .before .before .args in
-    let o = l .loop in (
-      sym (after-end _ (f .from .given .1)
-          ∙ reading2-done (entry (a .n)) (length (a .abs .now)) 0 false (now (a .bytes)) (f .from .given .0 .0) (o .i) (o .abs) (o .sign) (o .at) (o .inv .2) (omega arith)
-          (λ j h b. rw (when-read, le-ltb j (a .n) (omega arith)))),
-      spans-end (f .from .given .0 .0) (o .at) (64 * a .n) (f .from .given .1) (omega arith),
-    )
+    let o = l .loop in
+    sym (after-end _ (f .from .given .1)
+    ∙ reading2-done (entry (a .n)) (length (a .abs .now)) 0 false (now (a .bytes)) (f .from .given .0 .0) (o .i) (o .abs) (o .sign) (o .at) (o .inv .2) (omega arith)
+    (λ j h b. rw (when-read, le-ltb j (a .n) (omega arith))))
 
 pub read-coefficients-spec : {M : Type 1} → statement M
 read-coefficients-spec =

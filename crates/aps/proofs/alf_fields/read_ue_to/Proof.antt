@@ -20,21 +20,21 @@ returns : tie.Need-returns
 returns c =
     let k = c .before .before .before .before .read-ue in
     let f = c .before .before .field .given in
-    let e = sym (k .ensures .0) ∙ ap outcomeU (f .1) in
-    (rw (ueTo-read, e, le-leb _ _ (c .if1 .taken)), rw (f .1) at (k .ensures .1))
+    let e = sym (k .ensures) ∙ ap outcomeU (f .1) in
+    rw (ueTo-read, e, le-leb _ _ (c .if1 .taken))
 
 returns-2 : tie.Need-returns-2
 returns-2 c =
     let k = c .before .before .before .before .read-ue in
     let f = c .before .before .field .given in
-    let e = sym (k .ensures .0) ∙ ap outcomeU (f .1) in
-    (rw (ueTo-read, e, lt-leb _ _ (c .if1 .left)), tt)
+    let e = sym (k .ensures) ∙ ap outcomeU (f .1) in
+    rw (ueTo-read, e, lt-leb _ _ (c .if1 .left))
 
 returns-3 : tie.Need-returns-3
 returns-3 c =
     let k = c .before .before .before .read-ue in
-    let e = sym (k .ensures .0) ∙ ap outcomeU (c .before .field2 .given .1) in
-    (rw (ueTo-read, e), tt)
+    let e = sym (k .ensures) ∙ ap outcomeU (c .before .field2 .given .1) in
+    rw (ueTo-read, e)
 
 pub read-ue-to-spec : {M : Type 1} → statement M
 read-ue-to-spec =

@@ -5,13 +5,15 @@ use native.Mathlib.Omega.{arith}
 use borrow.Author.Needs.{needs}
 use borrow.Author.Tests.{le-ltb}
 use denote.Ref.{now}
+use lib.ListN.{length}
+use Rattle.aps.proofs.CodecLaws.{inside}
 use Rattle.aps.proofs.Steps.{when-read, Reading, reading-more, reading-done, reading-refused}
-use Rattle.aps.proofs.AlfSteps.{reading-from, index, index-lacking, index-taken, index-refused}
+use Rattle.aps.proofs.AlfSteps.{reading-from, index, index-law, index-lacking, index-taken, index-refused}
 use Rattle.aps.proofs.alf_luma.read_indexes.Statement.{statement}
 use Rattle.aps.proofs.alf_luma.read_indexes.Tie as tie
 
 abbrev Inv-loop : tie.InvT-loop
-Inv-loop bytes p count-minus1 idx₀ bits at₀ i₀ idx at i = (i ≤ 25) × (at ≤ p + 32 * i) × Reading (λ i. index count-minus1) 25 0 bytes p i idx at
+Inv-loop bytes p count-minus1 idx₀ bits at₀ i₀ idx at i = (i ≤ 25) × (at ≤ length bytes * 8) × Reading (λ i. index count-minus1) 25 0 bytes p i idx at
 
 abbrev μ-loop : tie.MeasureT-loop
 μ-loop bytes p count-minus1 idx₀ bits at₀ i₀ idx at i = 25 - i
@@ -21,10 +23,8 @@ returns c =
     let b = c .before .before in
     let a = b .args in
     let s = now (a .bytes) in
-    let n = a .count-minus1 in (
-      sym (reading-done (λ i. index n) 25 0 s (a .p) 0 (a .idx .now) (a .p) (reading-from (λ i. index n) 25 0 s (a .p) (a .idx .now) (b .pre .3)) (omega arith) (λ j h l. rw (when-read, le-ltb 0 n (omega arith)))),
-      omega arith,
-    )
+    let n = a .count-minus1 in
+    sym (reading-done (λ i. index n) 25 0 s (a .p) 0 (a .idx .now) (a .p) (reading-from (λ i. index n) 25 0 s (a .p) (a .idx .now) (b .pre .3)) (omega arith) (λ j h l. rw (when-read, le-ltb 0 n (omega arith))))
 
 add-ceil-log2 : tie.Need-add-ceil-log2 Inv-loop μ-loop
 add-ceil-log2 c = omega arith
@@ -36,7 +36,7 @@ loop-holds : tie.Need-loop-holds Inv-loop μ-loop
 loop-holds c =
     let b = c .before .before .before in
     let a = b .args in
-    (omega arith, omega arith, reading-from (λ i. index (a .count-minus1)) 25 0 (now (a .bytes)) (a .p) (a .idx .now) (b .pre .3))
+    (omega arith, b .pre .1, reading-from (λ i. index (a .count-minus1)) 25 0 (now (a .bytes)) (a .p) (a .idx .now) (b .pre .3))
 
 cast-lacks-bits : tie.Need-cast-lacks-bits Inv-loop μ-loop
 cast-lacks-bits c = search needs
@@ -52,7 +52,7 @@ returns-2 c =
     let n = a .count-minus1 in
     let w = l .before .ceil-log2 in
     let e = index-lacking n (now (a .bytes)) (o .at) (w .result) (w .ensures .0) (omega arith) (sym (c .before .lacks-bits .ensures) ∙ c .if2 .taken) in
-    (sym (reading-refused (λ i. index n) 25 0 (now (a .bytes)) (a .p) (o .i) (o .idx) (o .at) (o .inv .2) 1 (omega arith) e), tt)
+    sym (reading-refused (λ i. index n) 25 0 (now (a .bytes)) (a .p) (o .i) (o .idx) (o .at) (o .inv .2) 1 (omega arith) e)
 
 read-u-requires : tie.Need-read-u-requires Inv-loop μ-loop
 read-u-requires c κs = (omega arith, omega arith, omega arith)
@@ -67,7 +67,7 @@ returns-3 c =
     let k = c .before .read-u in
     let w = l .before .ceil-log2 in
     let e = index-refused n (now (a .bytes)) (o .at) (w .result) (w .ensures .0) (omega arith) (k .result) (sym (d .before .lacks-bits .ensures) ∙ d .if2 .left) (k .ensures) (c .if3 .taken) in
-    (sym (reading-refused (λ i. index n) 25 0 (now (a .bytes)) (a .p) (o .i) (o .idx) (o .at) (o .inv .2) 2 (omega arith) e), tt)
+    sym (reading-refused (λ i. index n) 25 0 (now (a .bytes)) (a .p) (o .i) (o .idx) (o .at) (o .inv .2) 2 (omega arith) e)
 
 cast-idx : tie.Need-cast-idx Inv-loop μ-loop
 cast-idx c = omega arith
@@ -97,14 +97,14 @@ loop-again c =
     let k = c .before .read-u in
     let w = l .before .ceil-log2 in
     let e = index-taken n (now (a .bytes)) (o .at) (w .result) (w .ensures .0) (omega arith) (k .result) (sym (d .before .lacks-bits .ensures) ∙ d .if2 .left) (k .ensures) (c .if3 .left) in
-    (omega arith, omega arith, reading-more (λ i. index n) 25 0 (now (a .bytes)) (a .p) (o .i) (o .idx) (o .at) (o .inv .2) (k .result) (o .at + w .result) (omega arith) e)
+    (omega arith, inside (index-law n) _ _ _ _ e (o .inv .1), reading-more (λ i. index n) 25 0 (now (a .bytes)) (a .p) (o .i) (o .idx) (o .at) (o .inv .2) (k .result) (o .at + w .result) (omega arith) e)
 
 returns-4 : tie.Need-returns-4 Inv-loop μ-loop
 returns-4 c =
     let l = c .before in
     let a = l .before .before .before .before .args in
     let o = l .loop in
-    (sym (reading-done (λ i. index (a .count-minus1)) 25 0 (now (a .bytes)) (a .p) (o .i) (o .idx) (o .at) (o .inv .2) (omega arith) (λ j h l. absurd (omega arith))), omega arith)
+    sym (reading-done (λ i. index (a .count-minus1)) 25 0 (now (a .bytes)) (a .p) (o .i) (o .idx) (o .at) (o .inv .2) (omega arith) (λ j h l. absurd (omega arith)))
 
 pub read-indexes-spec : {M : Type 1} → statement M
 read-indexes-spec =

@@ -6,11 +6,15 @@ use mathlib.Core.List.{List}
 use Prim.Native.Nat.{ℕ, _+_, _*_}
 use native.Mathlib.Omega.{arith}
 use denote.Ref.{now}
+use lib.ListN.{length}
+use Rattle.aps.specs.Inner.{StopsBy}
 use Rattle.aps.specs.Codec.{_▷_}
 use Rattle.aps.specs.AlfSyntax.{lumaIndexes, lumaCoefficients, lumaClips, toLuma}
 use Rattle.aps.specs.declared.fields.Stop.the-variants as Stop
-use Rattle.aps.proofs.AlfSteps.{luma-coefficients, luma-clips}
-use Rattle.aps.proofs.StopLaws.{after-same, map-stop, stops-more, stops-ends, ▷-after}
+use Rattle.aps.proofs.AlfSteps.{luma-coefficients, luma-clips, index-law, first-coefficients}
+use Rattle.aps.proofs.Bounds.{stops-inside}
+use Rattle.aps.proofs.EachLaws.{each-law}
+use Rattle.aps.proofs.StopLaws.{after-same, map-stop, ▷-after}
 use Rattle.aps.proofs.alf_luma.read_luma_filters.Statement.{statement}
 use Rattle.aps.proofs.alf_luma.read_luma_filters.Tie as tie
 
@@ -29,11 +33,17 @@ slice-aggregate-read-coefficients c = search needs
 slice-aggregate-read-coefficients-2 : tie.Need-slice-aggregate-read-coefficients-2
 slice-aggregate-read-coefficients-2 c = search needs
 
+-- the indexes end inside the input
+indexed : (c : tie.After-read-indexes) → StopsBy (c .read-indexes .result) (length (now (c .before .before .before .args .bytes)) * 8)
+indexed c =
+    let b = c .before .before .before in
+    stops-inside (each-law 0 25 λ i l. index-law (b .args .count-minus1)) (now (b .args .bytes)) (Stop.End (b .args .p)) (c .read-indexes .result) (c .read-indexes .last .1 .1 .1 .0) (c .read-indexes .ensures) (b .pre .1)
+
 read-coefficients-requires : tie.Need-read-coefficients-requires
 read-coefficients-requires c κs =
     let i = c .before .before in
     let b = i .before .before .before in
-    (omega arith, stops-more (i .read-indexes .result) (b .args .p + 800) 200000 (i .read-indexes .ensures .1) (omega arith), omega arith, omega arith, refl, refl)
+    (omega arith, indexed i, omega arith, omega arith, refl, refl)
 
 clips-sent-requires : tie.Need-clips-sent-requires
 clips-sent-requires c κs = search needs
@@ -46,9 +56,9 @@ read-clips-requires c κs =
     let k = c .before .before .before .before in
     let i = k .before .before .before in
     let b = i .before .before .before in
-    let n = 12 * (b .args .count-minus1 + 1) in (
+    let e = k .read-coefficients in (
       omega arith,
-      stops-more (k .read-coefficients .result) (b .args .p + 800 + 64 * n) 200000 (k .read-coefficients .ensures .1 (b .args .p + 800) (i .read-indexes .ensures .1)) (omega arith),
+      stops-inside (first-coefficients 300 (12 * (b .args .count-minus1 + 1))) (now (b .args .bytes)) (i .read-indexes .result) (e .result) (e .last .1 .1 .1 .0, e .last .1 .1 .1 .1 .0) (e .ensures) (indexed i),
       omega arith,
       omega arith,
       refl,
@@ -66,18 +76,14 @@ returns c =
     let a = i .before .before .before .args in
     let s = now (a .bytes) in
     let m = a .count-minus1 in
-    let n = 12 * (m + 1) in
     let idx = f .last .1 .1 .1 .0 in
     let coeff : List ℕ × List Bool = (e .last .1 .1 .1 .0, e .last .1 .1 .1 .1 .0) in
     let clips = d .last .1 .1 .1 .0 in
-    let coefficients = e .ensures .0 ∙ after-same (f .result) _ _ (λ q. luma-coefficients m s q) in
-    let cut = rw (w .ensures .0) at (d .ensures .0) ∙ after-same (e .result) _ _ (λ q. luma-clips m s q (a .clip)) in
+    let coefficients = e .ensures ∙ after-same (f .result) _ _ (λ q. luma-coefficients m s q) in
+    let cut = rw (w .ensures .0) at (d .ensures) ∙ after-same (e .result) _ _ (λ q. luma-clips m s q (a .clip)) in
     let rest = ▷-after (lumaCoefficients m) (λ coeff. lumaClips (a .clip) m) s (f .result) (e .result) (d .result) coeff clips coefficients cut in
-    let whole = ▷-after (lumaIndexes m) (λ idx. lumaCoefficients m ▷ λ coeff. lumaClips (a .clip) m) s (Stop.End (a .p)) (f .result) (d .result) idx (coeff, clips) (f .ensures .0) rest in
-    let ends = d .ensures .1 (a .p + 800 + 64 * n) (e .ensures .1 (a .p + 800) (f .ensures .1)) in (
-      map-stop (λ x. toLuma (a .clip, (m, x))) (d .result) (idx, (coeff, clips)) whole,
-      stops-ends (d .result) (a .p + 20600) _ (stops-more (d .result) (a .p + 800 + 64 * n + 2 * w .result) (a .p + 20600) ends (omega arith)),
-    )
+    let whole = ▷-after (lumaIndexes m) (λ idx. lumaCoefficients m ▷ λ coeff. lumaClips (a .clip) m) s (Stop.End (a .p)) (f .result) (d .result) idx (coeff, clips) (f .ensures) rest in
+    map-stop (λ x. toLuma (a .clip, (m, x))) (d .result) (idx, (coeff, clips)) whole
 
 pub read-luma-filters-spec : {M : Type 1} → statement M
 read-luma-filters-spec =

@@ -1,6 +1,5 @@
 -- `lmcs_answer`: the id, the payload, then how the set ends.
 use borrow.Author.Needs.{needs}
-use Prim.Native.Nat.{_≤_}
 use mathlib.Core.Path.{_≡_}
 use denote.Ref.{now}
 use native.Mathlib.Omega.{arith}
@@ -11,15 +10,18 @@ use Rattle.aps.proofs.aps.lmcs_answer.Statement.{statement}
 use Rattle.aps.proofs.aps.lmcs_answer.Tie as tie
 use Rattle.aps.specs.ApsSyntax.{zeroAlf, zeroScaling}
 use Rattle.aps.specs.declared.aps.ApsKind.{ApsKind}
+use Rattle.aps.proofs.CodecLaws.{inside}
+use Rattle.aps.proofs.LmcsLaws.{lmcs-law}
+use Rattle.aps.proofs.FieldLaws.{lacks-none}
 use Rattle.aps.proofs.Answers.{answered, refused-parts}
 use Rattle.aps.proofs.RbspSteps.{setOf, lmcs-refused, lmcs-id, lmcs-set, set-ended, set-refused}
 
--- what the payload gave, and how far it reached
+-- what the payload gave
 taken : (c : tie.After-known-told)
-    → ((lmcs (c .before .before .before .before .before .before .before .args .chroma)) .read (now (c .before .before .before .before .before .before .before .args .bytes)) 9 ≡ value (c .before .before .before .before .parse-lmcs-data .result .lmcs) (c .before .stop .given .0 .0)) × (c .before .stop .given .0 .0 ≤ 509)
+    → (lmcs (c .before .before .before .before .before .before .before .args .chroma)) .read (now (c .before .before .before .before .before .before .before .args .bytes)) 9 ≡ value (c .before .before .before .before .parse-lmcs-data .result .lmcs) (c .before .stop .given .0 .0)
 taken c =
     let k = c .before .before .before .before .parse-lmcs-data in
-    (answered (λ st. outcomeStop st (k .result .lmcs)) (c .before .stop .given .1) (k .ensures .0), rw (c .before .stop .given .1) at (k .ensures .1))
+    answered (λ st. outcomeStop st (k .result .lmcs)) (c .before .stop .given .1) (k .ensures)
 
 refuse-lmcs-requires : tie.Need-refuse-lmcs-requires
 refuse-lmcs-requires c κs = search needs
@@ -30,13 +32,17 @@ returns c =
     refused-parts _ (c .refuse-lmcs .ensures) (lmcs-id (now (b .args .bytes)) (b .args .id) (b .args .chroma) (b .pre .1) (c .before .if1 .taken))
 
 parse-lmcs-data-requires : tie.Need-parse-lmcs-data-requires
-parse-lmcs-data-requires c κs = search needs
+parse-lmcs-data-requires c κs =
+    let b = c .before .before in
+    (b .pre .0, lacks-none (now (b .args .bytes)) 0 9 (omega arith) (b .pre .1 .there))
 
 enum-known-stop : tie.Need-enum-known-stop
 enum-known-stop c = search needs
 
 read-ending-requires : tie.Need-read-ending-requires
-read-ending-requires c κs = (c .before .before .before .before .before .before .before .pre .0, omega (arith, taken c .1))
+read-ending-requires c κs =
+    let b = c .before .before .before .before .before .before .before in
+    (b .pre .0, inside (lmcs-law (b .args .chroma)) _ _ _ _ (taken c) (lacks-none (now (b .args .bytes)) 0 9 (omega arith) (b .pre .1 .there)))
 
 enum-known-end : tie.Need-enum-known-end
 enum-known-end c = search needs
@@ -61,7 +67,7 @@ returns-2 c =
     let t = taken (c .before .before .before .before) in
     let r = c .before .before .before .read-ending in
     λ a f. rw f
-    (set-ended (setOf ApsKind.Lmcs (b .args .id) (b .args .chroma) zeroAlf (k .result .lmcs) zeroScaling) (r .result .extension) (r .result .outcome) (r .ensures _) (lmcs-set (now (b .args .bytes)) (b .args .id) (b .args .chroma) (b .pre .1) (c .before .before .before .before .before .before .before .before .before .if1 .left) _ _ (t .0)) _ (c .before .end .given .1))
+    (set-ended (setOf ApsKind.Lmcs (b .args .id) (b .args .chroma) zeroAlf (k .result .lmcs) zeroScaling) (r .result .extension) (r .result .outcome) (r .ensures _) (lmcs-set (now (b .args .bytes)) (b .args .id) (b .args .chroma) (b .pre .1) (c .before .before .before .before .before .before .before .before .before .if1 .left) _ _ t) _ (c .before .end .given .1))
 
 returns-3 : tie.Need-returns-3
 returns-3 c =
@@ -70,13 +76,13 @@ returns-3 c =
     let t = taken (c .before .before .before .before .before) in
     let r = c .before .before .before .before .read-ending in
     refused-parts _ (c .refuse-lmcs2 .ensures)
-    (set-refused (setOf ApsKind.Lmcs (b .args .id) (b .args .chroma) zeroAlf (k .result .lmcs) zeroScaling) (r .result .extension) (r .result .outcome) (r .ensures _) (lmcs-set (now (b .args .bytes)) (b .args .id) (b .args .chroma) (b .pre .1) (c .before .before .before .before .before .before .before .before .before .before .if1 .left) _ _ (t .0)) _ (c .before .before .end2 .given .1))
+    (set-refused (setOf ApsKind.Lmcs (b .args .id) (b .args .chroma) zeroAlf (k .result .lmcs) zeroScaling) (r .result .extension) (r .result .outcome) (r .ensures _) (lmcs-set (now (b .args .bytes)) (b .args .id) (b .args .chroma) (b .pre .1) (c .before .before .before .before .before .before .before .before .before .before .if1 .left) _ _ t) _ (c .before .before .end2 .given .1))
 
 returns-4 : tie.Need-returns-4
 returns-4 c =
     let b = c .before .before .before .before .before .before .before .before in
     let k = c .before .before .before .before .before .parse-lmcs-data in
-    let e = answered (λ st. outcomeStop st (k .result .lmcs)) (c .before .before .stop2 .given .1) (k .ensures .0) in
+    let e = answered (λ st. outcomeStop st (k .result .lmcs)) (c .before .before .stop2 .given .1) (k .ensures) in
     refused-parts _ (c .refuse-lmcs3 .ensures) (lmcs-refused (now (b .args .bytes)) (b .args .id) (b .args .chroma) (b .pre .1) (c .before .before .before .before .before .before .if1 .left) _ e)
 
 pub lmcs-answer-spec : {M : Type 1} → statement M

@@ -3,6 +3,8 @@ use borrow.Author.Needs.{needs}
 use mathlib.Core.Path.{refl, sym, _∙_}
 use denote.Ref.{now}
 use Rattle.aps.specs.Inner.{withExtension, finished}
+use native.Mathlib.Omega.{arith}
+use Rattle.aps.proofs.FieldLaws.{lacks-none}
 use Rattle.aps.proofs.FieldSteps.{flag-here, flag-lacking}
 use Rattle.aps.proofs.aps.read_ending.Statement.{statement}
 use Rattle.aps.proofs.aps.read_ending.Tie as tie
@@ -21,7 +23,10 @@ add-read-end : tie.Need-add-read-end
 add-read-end c = search needs
 
 read-end-requires : tie.Need-read-end-requires
-read-end-requires c κs = search needs
+read-end-requires c κs =
+    let d = c .before in
+    let b = d .before .before .before in
+    (b .pre .0, lacks-none (now (b .args .bytes)) (b .args .p) 1 (omega arith) (sym (d .before .lacks-bits .ensures) ∙ d .if1 .left))
 
 returns-2 : tie.Need-returns-2
 unfolding finished withExtension

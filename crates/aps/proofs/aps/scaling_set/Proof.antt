@@ -1,6 +1,5 @@
 -- `scaling_set`: the payload, the id, then how the set ends.
 use borrow.Author.Needs.{needs}
-use Prim.Native.Nat.{_≤_}
 use mathlib.Core.Path.{_≡_}
 use denote.Ref.{now}
 use native.Mathlib.Omega.{arith}
@@ -11,20 +10,23 @@ use Rattle.aps.proofs.aps.scaling_set.Statement.{statement}
 use Rattle.aps.proofs.aps.scaling_set.Tie as tie
 use Rattle.aps.specs.ApsSyntax.{zeroAlf, zeroLmcs}
 use Rattle.aps.specs.declared.aps.ApsKind.{ApsKind}
+use Rattle.aps.proofs.Bounds.{made-inside}
+use Rattle.aps.proofs.ScalingLaws.{scalingSyntax-law}
+use Rattle.aps.proofs.FieldLaws.{lacks-none}
 use Rattle.aps.proofs.Answers.{answered, refused-answer}
 use Rattle.aps.proofs.RbspSteps.{setOf, scaling-refused, scaling-id, scaling-set, set-ended, set-refused}
 
--- what the payload gave, and how far it reached
+-- what the payload gave
 taken : (c : tie.After-known-told)
-    → (mapOutcome keep ((scalingSyntax (c .before .before .before .before .before .before .args .chroma)) .read (now (c .before .before .before .before .before .before .args .bytes)) 9) ≡ value (c .before .before .before .before .parse-scaling-list-data .result .scaling) (c .before .stop .given .0 .0)) × (c .before .stop .given .0 .0 ≤ 200009)
+    → mapOutcome keep ((scalingSyntax (c .before .before .before .before .before .before .args .chroma)) .read (now (c .before .before .before .before .before .before .args .bytes)) 9) ≡ value (c .before .before .before .before .parse-scaling-list-data .result .scaling) (c .before .stop .given .0 .0)
 taken c =
-    let k = c .before .before .before .before .parse-scaling-list-data in (
-      answered (λ st. outcomeStop st (k .result .scaling)) (c .before .stop .given .1) (k .ensures .0),
-      rw (c .before .stop .given .1) at (k .ensures .1),
-    )
+    let k = c .before .before .before .before .parse-scaling-list-data in
+    answered (λ st. outcomeStop st (k .result .scaling)) (c .before .stop .given .1) (k .ensures)
 
 parse-scaling-list-data-requires : tie.Need-parse-scaling-list-data-requires
-parse-scaling-list-data-requires c κs = search needs
+parse-scaling-list-data-requires c κs =
+    let b = c .before in
+    (b .pre .0, lacks-none (now (b .args .bytes)) 0 9 (omega arith) (b .pre .1 .there))
 
 enum-known-stop : tie.Need-enum-known-stop
 enum-known-stop c = search needs
@@ -36,10 +38,12 @@ returns : tie.Need-returns
 returns c =
     let b = c .before .before .before .before .before .before .before .before in
     let t = taken (c .before .before) in
-    refused-answer (c .refuse .result) _ (c .refuse .ensures) (scaling-id (now (b .args .bytes)) (b .args .id) (b .args .chroma) (b .pre .1) _ _ (t .0) (c .before .if1 .taken))
+    refused-answer (c .refuse .result) _ (c .refuse .ensures) (scaling-id (now (b .args .bytes)) (b .args .id) (b .args .chroma) (b .pre .1) _ _ t (c .before .if1 .taken))
 
 read-ending-requires : tie.Need-read-ending-requires
-read-ending-requires c κs = (c .before .before .before .before .before .before .before .pre .0, omega (arith, taken (c .before) .1))
+read-ending-requires c κs =
+    let b = c .before .before .before .before .before .before .before in
+    (b .pre .0, made-inside (scalingSyntax-law (b .args .chroma)) _ keep _ (taken (c .before)) (lacks-none (now (b .args .bytes)) 0 9 (omega arith) (b .pre .1 .there)))
 
 enum-known-end : tie.Need-enum-known-end
 enum-known-end c = search needs
@@ -70,7 +74,7 @@ returns-2 c =
     let t = taken (c .before .before .before .before .before .before .before) in
     let r = c .before .before .before .before .before .read-ending in
     rw (c .before .zero-alf .ensures, c .zero-lmcs .ensures)
-    (set-ended (setOf ApsKind.Scaling (b .args .id) (b .args .chroma) zeroAlf zeroLmcs (k .result .scaling)) (r .result .extension) (r .result .outcome) (r .ensures _) (scaling-set (now (b .args .bytes)) (b .args .id) (b .args .chroma) (b .pre .1) _ _ (t .0) (c .before .before .before .before .before .before .if1 .left)) _ (c .before .before .before .end .given .1))
+    (set-ended (setOf ApsKind.Scaling (b .args .id) (b .args .chroma) zeroAlf zeroLmcs (k .result .scaling)) (r .result .extension) (r .result .outcome) (r .ensures _) (scaling-set (now (b .args .bytes)) (b .args .id) (b .args .chroma) (b .pre .1) _ _ t (c .before .before .before .before .before .before .if1 .left)) _ (c .before .before .before .end .given .1))
 
 returns-3 : tie.Need-returns-3
 returns-3 c =
@@ -79,13 +83,13 @@ returns-3 c =
     let t = taken (c .before .before .before .before .before .before) in
     let r = c .before .before .before .before .read-ending in
     refused-answer (c .refuse2 .result) _ (c .refuse2 .ensures)
-    (set-refused (setOf ApsKind.Scaling (b .args .id) (b .args .chroma) zeroAlf zeroLmcs (k .result .scaling)) (r .result .extension) (r .result .outcome) (r .ensures _) (scaling-set (now (b .args .bytes)) (b .args .id) (b .args .chroma) (b .pre .1) _ _ (t .0) (c .before .before .before .before .before .if1 .left)) _ (c .before .before .end2 .given .1))
+    (set-refused (setOf ApsKind.Scaling (b .args .id) (b .args .chroma) zeroAlf zeroLmcs (k .result .scaling)) (r .result .extension) (r .result .outcome) (r .ensures _) (scaling-set (now (b .args .bytes)) (b .args .id) (b .args .chroma) (b .pre .1) _ _ t (c .before .before .before .before .before .if1 .left)) _ (c .before .before .end2 .given .1))
 
 returns-4 : tie.Need-returns-4
 returns-4 c =
     let b = c .before .before .before .before .before .before .before in
     let k = c .before .before .before .before .before .parse-scaling-list-data in
-    let e = answered (λ st. outcomeStop st (k .result .scaling)) (c .before .before .stop2 .given .1) (k .ensures .0) in
+    let e = answered (λ st. outcomeStop st (k .result .scaling)) (c .before .before .stop2 .given .1) (k .ensures) in
     refused-answer (c .refuse3 .result) _ (c .refuse3 .ensures) (scaling-refused (now (b .args .bytes)) (b .args .id) (b .args .chroma) (b .pre .1) _ e)
 
 pub scaling-set-spec : {M : Type 1} → statement M

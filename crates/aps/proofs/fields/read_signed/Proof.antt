@@ -3,7 +3,6 @@ use borrow.Author.Needs.{needs}
 use borrow.Author.Tests.{ne-eqb}
 use mathlib.Core.Path.{sym, _∙_}
 use Prim.Native.Nat.{_+_}
-use native.Mathlib.Omega.{arith}
 use denote.Ref.{now}
 use Rattle.aps.proofs.FieldSteps.{u-here, u-lacking, flag-here, flag-lacking, signed-read}
 use Rattle.aps.proofs.fields.read_signed.Statement.{statement}
@@ -15,7 +14,7 @@ lacks-bits-requires c κs = search needs
 returns : tie.Need-returns
 returns c =
     let a = c .before .before .before .args in
-    (rw (signed-read, u-lacking (a .n) (now (a .bytes)) (a .p) (sym (c .before .lacks-bits .ensures) ∙ c .if1 .taken)), tt)
+    rw (signed-read, u-lacking (a .n) (now (a .bytes)) (a .p) (sym (c .before .lacks-bits .ensures) ∙ c .if1 .taken))
 
 read-u-requires : tie.Need-read-u-requires
 read-u-requires c κs = search needs
@@ -28,7 +27,7 @@ returns-2 c =
     let k = c .before in
     let a = k .before .before .before .before .args in
     let there = sym (k .before .before .lacks-bits .ensures) ∙ k .before .if1 .left in
-    (rw (signed-read, u-here (a .n) (now (a .bytes)) (a .p) there, ← k .read-u .ensures, c .if2 .taken), omega arith)
+    rw (signed-read, u-here (a .n) (now (a .bytes)) (a .p) there, ← k .read-u .ensures, c .if2 .taken)
 
 lacks-bits-requires-2 : tie.Need-lacks-bits-requires-2
 lacks-bits-requires-2 c κs = search needs
@@ -40,7 +39,7 @@ returns-3 c =
     let s = now (a .bytes) in
     let there = sym (k .before .before .lacks-bits .ensures) ∙ k .before .if1 .left in
     let sign = sym (c .before .lacks-bits2 .ensures) ∙ c .if3 .taken in
-    (rw (signed-read, u-here (a .n) s (a .p) there, ← k .read-u .ensures, ne-eqb _ _ (c .before .before .if2 .left), flag-lacking s (a .p + a .n) sign), tt)
+    rw (signed-read, u-here (a .n) s (a .p) there, ← k .read-u .ensures, ne-eqb _ _ (c .before .before .if2 .left), flag-lacking s (a .p + a .n) sign)
 
 read-flag-requires : tie.Need-read-flag-requires
 read-flag-requires c κs = search needs
@@ -55,10 +54,8 @@ returns-4 c =
     let a = k .before .before .before .before .args in
     let s = now (a .bytes) in
     let there = sym (k .before .before .lacks-bits .ensures) ∙ k .before .if1 .left in
-    let sign = sym (d .before .lacks-bits2 .ensures) ∙ d .if3 .left in (
-      rw (signed-read, u-here (a .n) s (a .p) there, ← k .read-u .ensures, ne-eqb _ _ (d .before .before .if2 .left), flag-here s (a .p + a .n) sign, c .read-flag .ensures),
-      omega arith,
-    )
+    let sign = sym (d .before .lacks-bits2 .ensures) ∙ d .if3 .left in
+    rw (signed-read, u-here (a .n) s (a .p) there, ← k .read-u .ensures, ne-eqb _ _ (d .before .before .if2 .left), flag-here s (a .p + a .n) sign, c .read-flag .ensures)
 
 pub read-signed-spec : {M : Type 1} → statement M
 read-signed-spec =

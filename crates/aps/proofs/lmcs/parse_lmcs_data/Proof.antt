@@ -1,28 +1,26 @@
 -- `parse_lmcs_data`: the head, then what follows it.
 use borrow.Author.Needs.{needs}
-use Prim.Native.Nat.{_+_, _≤_}
 use mathlib.Core.Path.{_≡_, sym, _∙_}
 use denote.Ref.{now}
-use native.Mathlib.Omega.{arith}
 use Rattle.bitstream.specs.Outcome.{value}
 use Rattle.aps.specs.Codec.{ue, _▷_}
 use Rattle.aps.specs.LmcsSyntax.{inRange, lmcsHead}
 use Rattle.aps.specs.Inner.{outcomeStop}
 use Rattle.aps.proofs.Answers.{answered}
-use Rattle.aps.proofs.StopLaws.{stops-more}
+use Rattle.aps.proofs.CodecLaws.{inside}
+use Rattle.aps.proofs.LmcsLaws.{head-law}
 use Rattle.aps.proofs.LmcsSteps.{lmcs-refused, lmcs-read}
 use Rattle.aps.proofs.Steps.{judged-true}
 use Rattle.aps.proofs.lmcs.parse_lmcs_data.Statement.{statement}
 use Rattle.aps.proofs.lmcs.parse_lmcs_data.Tie as tie
 
--- what the head gave, and how far it reached
+-- what the head gave
 head : (c : tie.After-known-told)
-    → (lmcsHead .read (now (c .before .before .before .before .before .args .bytes)) (c .before .before .before .before .before .args .p)
-    ≡ value (c .before .before .before .read-head .result .min, (c .before .before .before .read-head .result .max, c .before .before .before .read-head .result .prec)) (c .before .stop .given .0 .0))
-    × (c .before .stop .given .0 .0 ≤ c .before .before .before .before .before .args .p + 189)
+    → lmcsHead .read (now (c .before .before .before .before .before .args .bytes)) (c .before .before .before .before .before .args .p)
+    ≡ value (c .before .before .before .read-head .result .min, (c .before .before .before .read-head .result .max, c .before .before .before .read-head .result .prec)) (c .before .stop .given .0 .0)
 head c =
     let k = c .before .before .before .read-head in
-    (answered (λ st. outcomeStop st (k .result .min, (k .result .max, k .result .prec))) (c .before .stop .given .1) (k .ensures .0), rw (c .before .stop .given .1) at (k .ensures .1))
+    answered (λ st. outcomeStop st (k .result .min, (k .result .max, k .result .prec))) (c .before .stop .given .1) (k .ensures)
 
 read-head-requires : tie.Need-read-head-requires
 read-head-requires c κs = search needs
@@ -31,7 +29,9 @@ enum-known-stop : tie.Need-enum-known-stop
 enum-known-stop c = search needs
 
 read-rest-requires : tie.Need-read-rest-requires
-read-rest-requires c κs = (c .before .before .before .before .before .pre .0, omega (arith, head c .1), judged-true inRange (ue ▷ λ min. ue ▷ λ max. ue) _ _ (head c .0))
+read-rest-requires c κs =
+    let b = c .before .before .before .before .before .pre in
+    (b .0, inside head-law _ _ _ _ (head c) (b .1), judged-true inRange (ue ▷ λ min. ue ▷ λ max. ue) _ _ (head c))
 
 enum-known-stop-2 : tie.Need-enum-known-stop-2
 enum-known-stop-2 c = search needs
@@ -40,13 +40,13 @@ no-lmcs-requires : tie.Need-no-lmcs-requires
 no-lmcs-requires c κs = search needs
 
 returns : tie.Need-returns
-returns c = (c .read-rest .ensures .0 ∙ sym (lmcs-read _ _ _ _ _ (head (c .before) .0)), stops-more (c .read-rest .result .stop) _ _ (c .read-rest .ensures .1) (omega (arith, head (c .before) .1)))
+returns c = c .read-rest .ensures ∙ sym (lmcs-read _ _ _ _ _ (head (c .before)))
 
 returns-2 : tie.Need-returns-2
 returns-2 c =
     let k = c .before .before .before .before .read-head in
-    let e = answered (λ st. outcomeStop st (k .result .min, (k .result .max, k .result .prec))) (c .before .before .stop2 .given .1) (k .ensures .0) in
-    (rw (c .no-lmcs .ensures) (sym (lmcs-refused _ _ _ _ e)), rw (c .no-lmcs .ensures) tt)
+    let e = answered (λ st. outcomeStop st (k .result .min, (k .result .max, k .result .prec))) (c .before .before .stop2 .given .1) (k .ensures) in
+    rw (c .no-lmcs .ensures) (sym (lmcs-refused _ _ _ _ e))
 
 pub parse-lmcs-data-spec : {M : Type 1} → statement M
 parse-lmcs-data-spec =

@@ -3,12 +3,16 @@ use Prim.Native.Nat.{_+_, _-_, _*_, _≤_}
 use mathlib.Core.Path.{_≡_, sym}
 use mathlib.Core.Bool.{false}
 use denote.Ref.{now}
+use lib.ListN.{length}
 use borrow.Author.Needs.{needs}
 use borrow.Author.Tests.{le-leb, lt-leb}
 use native.Mathlib.Omega.{arith}
 use Rattle.bitstream.specs.Outcome.{value, refused, number}
 use Rattle.aps.specs.Inner.{outcomeSigned}
 use Rattle.aps.proofs.Answers.{answered}
+use Rattle.aps.proofs.FieldLaws.{u-law}
+use Rattle.aps.proofs.CodecLaws.{inside}
+use Rattle.aps.proofs.ElementLaws.{signed-law}
 use Rattle.aps.proofs.LmcsSteps.{in-range, bin}
 use Rattle.aps.proofs.Steps.{when-read, Reading2, reading2-from, reading2-more, reading2-done, reading2-refused}
 use Rattle.aps.proofs.lmcs.read_codewords.Statement.{statement}
@@ -16,7 +20,7 @@ use Rattle.aps.proofs.lmcs.read_codewords.Tie as tie
 
 abbrev Inv-loop : tie.InvT-loop
 Inv-loop bytes p min max prec abs₀ sign₀ at₀ i₀ end abs sign at i =
-    (min ≤ i) × (i ≤ 16 - max) × (at ≤ p + 16 * (i - min)) × Reading2 (bin min max prec) 16 0 false bytes p i abs sign at
+    (min ≤ i) × (i ≤ 16 - max) × (at ≤ length bytes * 8) × Reading2 (bin min max prec) 16 0 false bytes p i abs sign at
 
 abbrev μ-loop : tie.MeasureT-loop
 μ-loop bytes p min max prec abs₀ sign₀ at₀ i₀ end abs sign at i = end - i
@@ -30,7 +34,7 @@ loop-holds c =
     let r = in-range _ _ _ (c .before .pre .2) in (
       omega arith,
       omega (arith, r .0, r .1),
-      omega arith,
+      c .before .pre .1,
       reading2-from (bin (a .min) (a .max) (a .prec)) 16 0 false (now (a .bytes)) (a .p) (a .min) (omega (arith, r .0)) (λ j h. rw (when-read, lt-leb (a .min) j h)),
     )
 
@@ -64,8 +68,8 @@ returns c =
     let o = l .loop in
     let k = c .before .before .before .read-signed in
     let e : (bin (a .min) (a .max) (a .prec) (o .i)) .read (now (a .bytes)) (o .at) ≡ refused (number (c .before .why .given .0 .0))
-    = rw (when-read, le-leb (a .min) (o .i) (omega arith), le-leb (o .i) (15 - a .max) (omega arith)) (answered outcomeSigned (c .before .why .given .1) (k .ensures .0)) in
-    (sym (reading2-refused (bin (a .min) (a .max) (a .prec)) 16 0 false (now (a .bytes)) (a .p) (o .i) (o .abs) (o .sign) (o .at) (o .inv .3) _ (omega arith) e), tt)
+    = rw (when-read, le-leb (a .min) (o .i) (omega arith), le-leb (o .i) (15 - a .max) (omega arith)) (answered outcomeSigned (c .before .why .given .1) (k .ensures)) in
+    sym (reading2-refused (bin (a .min) (a .max) (a .prec)) 16 0 false (now (a .bytes)) (a .p) (o .i) (o .abs) (o .sign) (o .at) (o .inv .3) _ (omega arith) e)
 
 add-i : tie.Need-add-i Inv-loop μ-loop
 add-i c = omega arith
@@ -80,12 +84,12 @@ loop-again c =
     let o = l .loop in
     let k = c .before .before .before .read-signed in
     let g = c .before .m .given in
+    let r = answered outcomeSigned (g .1) (k .ensures) in
     let e : (bin (a .min) (a .max) (a .prec) (o .i)) .read (now (a .bytes)) (o .at) ≡ value (g .0 .0, g .0 .1 .0) (g .0 .1 .1 .0)
-    = rw (when-read, le-leb (a .min) (o .i) (omega arith), le-leb (o .i) (15 - a .max) (omega arith)) (answered outcomeSigned (g .1) (k .ensures .0)) in
-    let n : g .0 .1 .1 .0 ≤ o .at + (a .prec + 1) + 1 = rw (g .1) at (k .ensures .1) in (
+    = rw (when-read, le-leb (a .min) (o .i) (omega arith), le-leb (o .i) (15 - a .max) (omega arith)) r in (
       omega arith,
       omega arith,
-      omega (arith, in-range _ _ _ (l .before .before .pre .2) .2),
+      inside (signed-law (u-law (a .prec + 1))) _ _ _ _ r (o .inv .2),
       reading2-more (bin (a .min) (a .max) (a .prec)) 16 0 false (now (a .bytes)) (a .p) (o .i) (o .abs) (o .sign) (o .at) (o .inv .3) _ _ _ (omega arith) e,
     )
 
@@ -94,11 +98,9 @@ returns-2 c =
     let l = c .before in
     let a = l .before .before .args in
     let o = l .loop in
-    let r = in-range _ _ _ (l .before .before .pre .2) in (
-      sym (reading2-done (bin (a .min) (a .max) (a .prec)) 16 0 false (now (a .bytes)) (a .p) (o .i) (o .abs) (o .sign) (o .at) (o .inv .3) (omega arith)
-          (λ j h b. rw (when-read, le-leb (a .min) j (omega arith), lt-leb j (15 - a .max) (omega (arith, r .1))))),
-      omega (arith, r .0, r .1),
-    )
+    let r = in-range _ _ _ (l .before .before .pre .2) in
+    sym (reading2-done (bin (a .min) (a .max) (a .prec)) 16 0 false (now (a .bytes)) (a .p) (o .i) (o .abs) (o .sign) (o .at) (o .inv .3) (omega arith)
+    (λ j h b. rw (when-read, le-leb (a .min) j (omega arith), lt-leb j (15 - a .max) (omega (arith, r .1)))))
 
 pub read-codewords-spec : {M : Type 1} → statement M
 read-codewords-spec =

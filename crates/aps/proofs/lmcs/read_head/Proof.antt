@@ -1,38 +1,38 @@
 -- `read_head`: three reads one after the other, then the judgement.
 use borrow.Author.Needs.{needs}
-use Prim.Native.Nat.{_+_, _≤_}
+use Prim.Native.Nat.{_*_, _≤_}
 use mathlib.Core.Path.{_≡_, sym, _∙_}
 use denote.Ref.{now}
+use lib.ListN.{length}
 use native.Mathlib.Omega.{arith}
 use Rattle.bitstream.specs.Outcome.{value}
 use Rattle.bitstream.specs.Reading.{outcomeU}
 use Rattle.aps.specs.Codec.{ue}
 use Rattle.aps.proofs.Answers.{answered}
+use Rattle.aps.proofs.FieldLaws.{ue-law}
+use Rattle.aps.proofs.CodecLaws.{inside}
 use Rattle.aps.proofs.LmcsSteps.{min-refused, max-refused, prec-refused, range-refused, head-read}
 use Rattle.aps.proofs.lmcs.read_head.Statement.{statement}
 use Rattle.aps.proofs.lmcs.read_head.Tie as tie
 
--- what each read that was taken gave, and how far it reached
+-- what each read that was taken gave, and that it ends inside the input
 first : (c : tie.After-known-told2)
-    → (ue .read (now (c .before .before .before .before .before .args .bytes)) (c .before .before .before .before .before .args .p) ≡ value (c .before .min .given .0 .0) (c .before .min .given .0 .1 .0 .«bit_pos»))
-    × (c .before .min .given .0 .1 .0 .«bit_pos» ≤ c .before .before .before .before .before .args .p + 63)
+    → ue .read (now (c .before .before .before .before .before .args .bytes)) (c .before .before .before .before .before .args .p) ≡ value (c .before .min .given .0 .0) (c .before .min .given .0 .1 .0 .«bit_pos»)
 first c =
-    let e = c .before .before .before .read-ue .ensures in
-    (answered outcomeU (c .before .min .given .1) (e .0), rw (c .before .min .given .1) at (e .1))
+    answered outcomeU (c .before .min .given .1) (c .before .before .before .read-ue .ensures)
+
+min-ends : (c : tie.After-known-told2) → c .before .min .given .0 .1 .0 .«bit_pos» ≤ length (now (c .before .before .before .before .before .args .bytes)) * 8
+min-ends c = inside ue-law _ _ _ _ (first c) (c .before .before .before .before .before .pre .1)
 
 second : (c : tie.After-known-told4)
-    → (ue .read (now (c .before .before .before .before .before .before .before .before .before .args .bytes)) (c .before .before .before .before .before .min .given .0 .1 .0 .«bit_pos») ≡ value (c .before .max .given .0 .0) (c .before .max .given .0 .1 .0 .«bit_pos»))
-    × (c .before .max .given .0 .1 .0 .«bit_pos» ≤ c .before .before .before .before .before .min .given .0 .1 .0 .«bit_pos» + 63)
+    → ue .read (now (c .before .before .before .before .before .before .before .before .before .args .bytes)) (c .before .before .before .before .before .min .given .0 .1 .0 .«bit_pos») ≡ value (c .before .max .given .0 .0) (c .before .max .given .0 .1 .0 .«bit_pos»)
 second c =
-    let e = c .before .before .before .read-ue2 .ensures in
-    (answered outcomeU (c .before .max .given .1) (e .0), rw (c .before .max .given .1) at (e .1))
+    answered outcomeU (c .before .max .given .1) (c .before .before .before .read-ue2 .ensures)
 
 third : (c : tie.After-known-told6)
-    → (ue .read (now (c .before .before .before .before .before .before .before .before .before .before .before .before .before .args .bytes)) (c .before .before .before .before .before .max .given .0 .1 .0 .«bit_pos») ≡ value (c .before .prec .given .0 .0) (c .before .prec .given .0 .1 .0 .«bit_pos»))
-    × (c .before .prec .given .0 .1 .0 .«bit_pos» ≤ c .before .before .before .before .before .max .given .0 .1 .0 .«bit_pos» + 63)
+    → ue .read (now (c .before .before .before .before .before .before .before .before .before .before .before .before .before .args .bytes)) (c .before .before .before .before .before .max .given .0 .1 .0 .«bit_pos») ≡ value (c .before .prec .given .0 .0) (c .before .prec .given .0 .1 .0 .«bit_pos»)
 third c =
-    let e = c .before .before .before .read-ue3 .ensures in
-    (answered outcomeU (c .before .prec .given .1) (e .0), rw (c .before .prec .given .1) at (e .1))
+    answered outcomeU (c .before .prec .given .1) (c .before .before .before .read-ue3 .ensures)
 
 read-ue-requires : tie.Need-read-ue-requires
 read-ue-requires c κs = search needs
@@ -48,7 +48,7 @@ enum-known-min c = search needs
 
 read-ue-requires-2 : tie.Need-read-ue-requires-2
 read-ue-requires-2 c κs =
-    (c .before .before .before .before .before .pre .0, omega (arith, first c .1))
+    (c .before .before .before .before .before .pre .0, omega (arith, min-ends c))
 
 enum-known-why-2 : tie.Need-enum-known-why-2
 enum-known-why-2 c = search needs
@@ -61,7 +61,7 @@ enum-known-max c = search needs
 
 read-ue-requires-3 : tie.Need-read-ue-requires-3
 read-ue-requires-3 c κs =
-    (c .before .before .before .before .before .before .before .before .before .pre .0, omega (arith, first (c .before .before .before .before) .1, second c .1))
+    (c .before .before .before .before .before .before .before .before .before .pre .0, omega (arith, inside ue-law _ _ _ _ (second c) (min-ends (c .before .before .before .before))))
 
 enum-known-why-3 : tie.Need-enum-known-why-3
 enum-known-why-3 c = search needs
@@ -80,36 +80,32 @@ no-head-requires-4 c κs = search needs
 
 returns : tie.Need-returns
 returns c =
-    let e = answered outcomeU (c .before .before .why .given .1) (c .before .before .before .before .read-ue .ensures .0) in
-    (rw (c .no-head .ensures) (sym (min-refused _ _ _ e)), rw (c .no-head .ensures) tt)
+    let e = answered outcomeU (c .before .before .why .given .1) (c .before .before .before .before .read-ue .ensures) in
+    rw (c .no-head .ensures) (sym (min-refused _ _ _ e))
 
 returns-2 : tie.Need-returns-2
 returns-2 c =
-    let e = answered outcomeU (c .before .before .why2 .given .1) (c .before .before .before .before .read-ue2 .ensures .0) in
-    (rw (c .no-head2 .ensures) (sym (max-refused _ _ _ _ _ (first (c .before .before .before .before .before) .0) e)), rw (c .no-head2 .ensures) tt)
+    let e = answered outcomeU (c .before .before .why2 .given .1) (c .before .before .before .before .read-ue2 .ensures) in
+    rw (c .no-head2 .ensures) (sym (max-refused _ _ _ _ _ (first (c .before .before .before .before .before)) e))
 
 returns-3 : tie.Need-returns-3
 returns-3 c =
-    let e = answered outcomeU (c .before .before .why3 .given .1) (c .before .before .before .before .read-ue3 .ensures .0) in
+    let e = answered outcomeU (c .before .before .why3 .given .1) (c .before .before .before .before .read-ue3 .ensures) in
     let d = c .before .before .before .before .before in
-    (rw (c .no-head3 .ensures) (sym (prec-refused _ _ _ _ _ (first (d .before .before .before .before) .0) _ _ (second d .0) e)), rw (c .no-head3 .ensures) tt)
+    rw (c .no-head3 .ensures) (sym (prec-refused _ _ _ _ _ (first (d .before .before .before .before)) _ _ (second d) e))
 
 returns-4 : tie.Need-returns-4
 returns-4 c =
     let d = c .before .before in
-    let f = d .before .before .before .before in (
-      sym (head-read _ _ 0 _ _ (first (f .before .before .before .before) .0) _ _ (second f .0) _ _ (third d .0) (sym (c .before .in-range .ensures) ∙ c .if1 .taken)),
-      omega (arith, first (f .before .before .before .before) .1, second f .1, third d .1),
-    )
+    let f = d .before .before .before .before in
+    sym (head-read _ _ 0 _ _ (first (f .before .before .before .before)) _ _ (second f) _ _ (third d) (sym (c .before .in-range .ensures) ∙ c .if1 .taken))
 
 returns-5 : tie.Need-returns-5
 returns-5 c =
     let d = c .before .before .before in
-    let f = d .before .before .before .before in (
-      rw (c .no-head4 .ensures)
-          (sym (range-refused _ _ 0 _ _ (first (f .before .before .before .before) .0) _ _ (second f .0) _ _ (third d .0) (sym (c .before .before .in-range .ensures) ∙ c .before .if1 .left))),
-      rw (c .no-head4 .ensures) tt,
-    )
+    let f = d .before .before .before .before in
+    rw (c .no-head4 .ensures)
+    (sym (range-refused _ _ 0 _ _ (first (f .before .before .before .before)) _ _ (second f) _ _ (third d) (sym (c .before .before .in-range .ensures) ∙ c .before .if1 .left)))
 
 pub read-head-spec : {M : Type 1} → statement M
 read-head-spec =

@@ -1,6 +1,6 @@
 -- `read_rest`: the codewords, then the chroma delta, whose 3 bits fit a byte.
 use borrow.Author.Needs.{needs}
-use Prim.Native.Nat.{_+_, _≤_, _<_}
+use Prim.Native.Nat.{_<_}
 use mathlib.Core.Path.{_≡_, sym}
 use denote.Ref.{now}
 use native.Mathlib.Omega.{arith}
@@ -8,21 +8,25 @@ use Rattle.bitstream.specs.Outcome.{value}
 use Rattle.aps.specs.LmcsSyntax.{lmcsCodewords, toLmcs}
 use Rattle.aps.specs.Inner.{outcomeStop, outcomeSigned}
 use Rattle.aps.proofs.Answers.{answered}
-use Rattle.aps.proofs.LmcsSteps.{crs-lt, rest-refused, crs-refused, rest-read}
+use Rattle.aps.proofs.CodecLaws.{inside}
+use Rattle.aps.proofs.LmcsSteps.{codewords-law, crs-lt, rest-refused, crs-refused, rest-read}
 use Rattle.aps.proofs.lmcs.read_rest.Statement.{statement}
 use Rattle.aps.proofs.lmcs.read_rest.Tie as tie
 
--- what the codewords gave, and how far they reached
-words : (c : tie.After-known-told)
-    → ((lmcsCodewords (c .before .before .before .before .before .before .before .args .min, (c .before .before .before .before .before .before .before .args .max, c .before .before .before .before .before .before .before .args .prec))) .read (now (c .before .before .before .before .before .before .before .args .bytes)) (c .before .before .before .before .before .before .before .args .p)
-    ≡ value (c .before .before .before .before .before .read-codewords .result .abs, c .before .before .before .before .before .read-codewords .result .sign) (c .before .stop .given .0 .0))
-    × (c .before .stop .given .0 .0 ≤ c .before .before .before .before .before .before .before .args .p + 256)
-words c =
-    let k = c .before .before .before .before .before .read-codewords in
-    (answered (λ st. outcomeStop st (k .result .abs, k .result .sign)) (c .before .stop .given .1) (k .ensures .0), rw (c .before .stop .given .1) at (k .ensures .1))
+-- what the codewords gave
+module _ (c : tie.After-known-told) where
+  abbrev read : tie.After-read-codewords
+  read = c .before .before .before .before .before
+
+  abbrev start : tie.Start
+  start = read .before .before
+
+  words : (lmcsCodewords (start .args .min, (start .args .max, start .args .prec))) .read (now (start .args .bytes)) (start .args .p)
+      ≡ value (read .read-codewords .result .abs, read .read-codewords .result .sign) (c .before .stop .given .0 .0)
+  words = answered (λ st. outcomeStop st (read .read-codewords .result .abs, read .read-codewords .result .sign)) (c .before .stop .given .1) (read .read-codewords .ensures)
 
 crs : (c : tie.After-known-told3) → c .before .m .given .0 .0 < 8
-crs c = crs-lt (c .before .before .before .before .before .before .before .before .before .before .before .args .chroma) _ _ (answered outcomeSigned (c .before .m .given .1) (c .before .before .before .read-crs .ensures .0))
+crs c = crs-lt (c .before .before .before .before .before .before .before .before .before .before .before .args .chroma) _ _ (answered outcomeSigned (c .before .m .given .1) (c .before .before .before .read-crs .ensures))
 
 read-codewords-requires : tie.Need-read-codewords-requires
 read-codewords-requires c κs = search needs
@@ -39,11 +43,13 @@ no-lmcs-requires c κs = search needs
 returns : tie.Need-returns
 returns c =
     let k = c .before .before .before .before .before .before .read-codewords in
-    let e = answered (λ st. outcomeStop st (k .result .abs, k .result .sign)) (c .before .before .stop2 .given .1) (k .ensures .0) in
-    (rw (c .no-lmcs .ensures) (sym (rest-refused _ _ _ _ _ e)), rw (c .no-lmcs .ensures) tt)
+    let e = answered (λ st. outcomeStop st (k .result .abs, k .result .sign)) (c .before .before .stop2 .given .1) (k .ensures) in
+    rw (c .no-lmcs .ensures) (sym (rest-refused _ _ _ _ _ e))
 
 read-crs-requires : tie.Need-read-crs-requires
-read-crs-requires c κs = (c .before .before .before .before .before .before .before .pre .0, omega (arith, words c .1))
+read-crs-requires c κs =
+    let a = start c .args in
+    (start c .pre .0, inside (codewords-law (a .min, (a .max, a .prec))) _ _ _ _ (words c) (start c .pre .1))
 
 enum-known-m : tie.Need-enum-known-m
 enum-known-m c = search needs
@@ -62,14 +68,13 @@ unfolding toLmcs
 returns-2 c =
     let d = c .before .before .before .before in
     let k = c .before .before .before .read-crs in
-    let n : c .before .m .given .0 .1 .1 .0 ≤ c .before .before .before .before .before .stop .given .0 .0 + 4 = rw (c .before .m .given .1) at (k .ensures .1) in
-    (sym (rest-read _ _ _ _ _ _ (words d .0) _ _ (answered outcomeSigned (c .before .m .given .1) (k .ensures .0))), omega (arith, words d .1))
+    sym (rest-read _ _ _ _ _ _ (words d) _ _ (answered outcomeSigned (c .before .m .given .1) (k .ensures)))
 
 returns-3 : tie.Need-returns-3
 returns-3 c =
     let d = c .before .before .before .before .before in
-    let e = answered outcomeSigned (c .before .before .why .given .1) (c .before .before .before .before .read-crs .ensures .0) in
-    (rw (c .no-lmcs2 .ensures) (sym (crs-refused _ _ _ _ _ _ (words d .0) _ e)), rw (c .no-lmcs2 .ensures) tt)
+    let e = answered outcomeSigned (c .before .before .why .given .1) (c .before .before .before .before .read-crs .ensures) in
+    rw (c .no-lmcs2 .ensures) (sym (crs-refused _ _ _ _ _ _ (words d) _ e))
 
 pub read-rest-spec : {M : Type 1} → statement M
 read-rest-spec =

@@ -2,7 +2,6 @@
 use borrow.Author.Needs.{needs}
 use mathlib.Core.Path.{_≡_, sym, ap, _∙_}
 use Prim.Native.Nat.{_-_}
-use native.Mathlib.Omega.{arith}
 use denote.Ref.{now}
 use mir.Syntax.{w32}
 use mir.Facts.{toZ-ofZ}
@@ -10,7 +9,6 @@ use Rattle.bitstream.specs.Outcome.{mapOutcome}
 use Rattle.aps.specs.Inner.{stored, outcomeStop}
 use Rattle.aps.specs.ScalingSyntax.{Entry, idAt}
 use Rattle.aps.specs.declared.fields.Stop.{Stop}
-use Rattle.aps.proofs.Bounds.{ends-at}
 use Rattle.aps.proofs.ScalingKeep.{Keeping, keeping-start, keeping-more, keeping-refused, keeping-done}
 use Rattle.aps.proofs.scaling_list_data.parse_scaling_list_data.Statement.{statement}
 use Rattle.aps.proofs.scaling_list_data.parse_scaling_list_data.Tie as tie
@@ -22,12 +20,12 @@ abbrev μ-loop : tie.MeasureT-loop
 μ-loop bytes p chroma copy₀ pred₀ delta₀ dc₀ list₀ at₀ id₀ copy pred delta dc list at id = 28 - id
 
 loop-holds : tie.Need-loop-holds Inv-loop μ-loop
-loop-holds c = keeping-start _ _ _
+loop-holds c = keeping-start _ _ _ (c .before .pre .1)
 
 read-id-requires : tie.Need-read-id-requires Inv-loop μ-loop
 read-id-requires c κs =
     let l = c .before .before in
-    (l .before .before .pre .0, omega (arith, l .loop .inv .near), c .before .loop-test .taken)
+    (l .before .before .pre .0, l .loop .inv .near, c .before .loop-test .taken)
 
 -- the id that was read
 abbrev entry : tie.After-read-id Inv-loop μ-loop → Entry
@@ -39,7 +37,7 @@ stored-entry : (c : tie.After-read-id Inv-loop μ-loop) → outcomeStop {A = Ent
     ≡ mapOutcome (stored (c .before .before .before .loop .list) (c .before .before .before .loop .id))
     ((idAt (c .before .before .before .before .before .args .chroma) (c .before .before .before .loop .id)) .read
     (now (c .before .before .before .before .before .args .bytes)) (c .before .before .before .loop .at))
-stored-entry c = c .read-id .ensures .0
+stored-entry c = c .read-id .ensures
 
 enum-known-stop : tie.Need-enum-known-stop Inv-loop μ-loop
 enum-known-stop c = search needs
@@ -55,7 +53,7 @@ returns c =
     let r = c .before .before .before .before in
     let l = r .before .before .before in
     let e = sym (ap (λ (t : Stop). outcomeStop {A = Entry} t (entry r)) (c .before .before .stop2 .given .1)) ∙ stored-entry r in
-    (keeping-refused _ _ _ _ _ _ _ _ _ _ (l .loop .inv) _ (r .before .before .loop-test .taken) e, tt)
+    keeping-refused _ _ _ _ _ _ _ _ _ _ (l .loop .inv) _ (r .before .before .loop-test .taken) e
 
 array-write-copy : tie.Need-array-write-copy Inv-loop μ-loop
 array-write-copy c = search needs
@@ -85,12 +83,12 @@ loop-again c =
     let same = ap (λ (t : Stop). outcomeStop {A = Entry} t (entry r)) (c .before .before .before .before .stop .given .1) in
     let f = toZ-ofZ {w = w32} {z = r .read-id .result .dc} (record { sfits = c .before .struct-told .given .1 .1 .1 .1 .0 .1 }) in
     rw (c .store-dc .ensures, f)
-    (keeping-more _ _ _ _ _ _ _ _ _ _ (l .loop .inv) (entry r) _ (r .before .before .loop-test .taken) (sym same ∙ stored-entry r) (ends-at _ same (r .read-id .ensures .1)))
+    (keeping-more _ _ _ _ _ _ _ _ _ _ (l .loop .inv) (entry r) _ (r .before .before .loop-test .taken) (sym same ∙ stored-entry r))
 
 returns-2 : tie.Need-returns-2 Inv-loop μ-loop
 returns-2 c =
     let l = c .before in
-    (keeping-done _ _ _ _ _ _ _ _ _ _ (l .loop .inv) (c .loop-test .left), omega (arith, l .loop .inv .near, l .loop .inv .count))
+    keeping-done _ _ _ _ _ _ _ _ _ _ (l .loop .inv) (c .loop-test .left)
 
 pub parse-scaling-list-data-spec : {M : Type 1} → statement M
 parse-scaling-list-data-spec =

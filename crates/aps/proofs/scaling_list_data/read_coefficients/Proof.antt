@@ -1,8 +1,6 @@
 -- `read_coefficients`: the DC, then the steps after it.
 use borrow.Author.Needs.{needs}
 use mathlib.Core.Path.{_≡_, sym, ap, _∙_}
-use Prim.Native.Nat.{_+_, _≤_}
-use native.Mathlib.Omega.{arith}
 use denote.Ref.{now}
 use mir.Syntax.{w32}
 use mir.Val.{toZ, ofZ}
@@ -10,7 +8,10 @@ use mir.Facts.{toZ-ofZ}
 use Rattle.bitstream.specs.Outcome.{value}
 use Rattle.bitstream.specs.Reading.{outcomeS}
 use Rattle.aps.specs.ScalingSyntax.{dcAt}
-use Rattle.aps.proofs.Bounds.{ends-at, stop-ends}
+use Rattle.aps.proofs.CodecLaws.{when-law, inside}
+use Rattle.aps.proofs.ScalingLaws.{just-is, se8-law}
+use lib.Dec.{ltb}
+use lib.IntN.{pos}
 use Rattle.aps.proofs.Gives.{given}
 use Rattle.aps.proofs.ScalingSteps.{Small, dc-small, dc-refused, coefficients-stored}
 use Rattle.aps.proofs.scaling_list_data.read_coefficients.Statement.{statement}
@@ -30,10 +31,7 @@ module _ (c : tie.After-known-told) where
   start = read .before .before
 
   told : (dcAt (start .args .id)) .read (now (start .args .bytes)) (start .args .p) ≡ value (c .before .field .given .0 .0) (c .before .field .given .0 .1 .0 .«bit_pos»)
-  told = sym (read .read-dc .ensures .0) ∙ ap outcomeS (c .before .field .given .1)
-
-  near : c .before .field .given .0 .1 .0 .«bit_pos» ≤ start .args .p + 63
-  near = ends-at _ (ap outcomeS (c .before .field .given .1)) (read .read-dc .ensures .1)
+  told = sym (read .read-dc .ensures) ∙ ap outcomeS (c .before .field .given .1)
 
   dc-is : toZ w32 (ofZ w32 (c .before .field .given .0 .0)) ≡ c .before .field .given .0 .0
   dc-is = toZ-ofZ (record { sfits = c .known-told .given .0 .1 })
@@ -43,22 +41,20 @@ read-steps-requires c κs =
     let k = c .before in
     let a = start k .args in
     let b = start k .pre in
-    (b .0, omega (arith, near k), b .2, rw (dc-is k) (given Small (told k) (dc-small (a .id) (now (a .bytes)) (a .p))))
+    (b .0, inside (when-law (ltb 13 (a .id)) (just-is (pos 0)) λ t. se8-law) _ _ _ _ (told k) (b .1), b .2, rw (dc-is k) (given Small (told k) (dc-small (a .id) (now (a .bytes)) (a .p))))
 
 enum-known-field-2 : tie.Need-enum-known-field-2
 enum-known-field-2 c = search needs
 
 returns : tie.Need-returns
 returns c =
-    let k = c .before .before in (
-      rw (dc-is k) (coefficients-stored _ _ _ (told k) (c .read-steps .result) _ (c .read-steps .last .1 .1 .1 .1 .0) (rw (dc-is k) at (c .read-steps .ensures .0))),
-      stop-ends (c .read-steps .result) _ _ _ _ (omega (arith, near k)) (c .read-steps .ensures .1),
-    )
+    let k = c .before .before in
+    rw (dc-is k) (coefficients-stored _ _ _ (told k) (c .read-steps .result) _ (c .read-steps .last .1 .1 .1 .1 .0) (rw (dc-is k) at (c .read-steps .ensures)))
 
 returns-2 : tie.Need-returns-2
 returns-2 c =
     let r = c .before .before .before in
-    (rw (dc-refused _ _ _ (sym (r .read-dc .ensures .0) ∙ ap outcomeS (c .before .field2 .given .1))), tt)
+    rw (dc-refused _ _ _ (sym (r .read-dc .ensures) ∙ ap outcomeS (c .before .field2 .given .1)))
 
 pub read-coefficients-spec : {M : Type 1} → statement M
 read-coefficients-spec =

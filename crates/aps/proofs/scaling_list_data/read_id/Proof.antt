@@ -1,7 +1,6 @@
 -- `read_id`: an uncoded id takes no bits, and its list stays as it was.
 use borrow.Author.Needs.{needs}
 use mathlib.Core.Path.{sym, _∙_}
-use native.Mathlib.Omega.{arith}
 use Rattle.aps.proofs.Steps.{when-read}
 use Rattle.aps.proofs.scaling_list_data.read_id.Statement.{statement}
 use Rattle.aps.proofs.scaling_list_data.read_id.Tie as tie
@@ -16,12 +15,12 @@ returns : tie.Need-returns
 returns c =
     let i = c .before .before .before in
     let f = sym (i .scaling-id-coded .ensures) ∙ c .before .before .if1 .taken in
-    (rw (when-read, f) (c .read-entry .ensures .0), c .read-entry .ensures .1)
+    rw (when-read, f) (c .read-entry .ensures)
 
 returns-2 : tie.Need-returns-2
 returns-2 c =
     let f = sym (c .before .scaling-id-coded .ensures) ∙ c .if1 .left in
-    (rw (when-read, f), omega arith)
+    rw (when-read, f)
 
 pub read-id-spec : {M : Type 1} → statement M
 read-id-spec = tie.close (tie.spec scaling-id-coded-requires read-entry-requires returns returns-2)

@@ -9,7 +9,6 @@ use mir.Val.{toZ, ofZ, SFits}
 use mir.Facts.{toZ-ofZ}
 use Rattle.bitstream.specs.Outcome.{value}
 use Rattle.bitstream.specs.Reading.{outcomeS}
-use Rattle.aps.proofs.Bounds.{ends-at}
 use Rattle.aps.proofs.SignedLaws.{abs-fits, add-abs}
 use Rattle.aps.proofs.Gives.{given}
 use Rattle.aps.proofs.ScalingSteps.{position, se8, Small, se8-small, step-skip, step-refused, step-value}
@@ -22,7 +21,7 @@ step-skipped-requires c κs = search needs
 returns : tie.Need-returns
 returns c =
     let k = c .before .before .before in
-    (rw (toZ-ofZ (k .fits .prev)) (sym (step-skip _ _ _ _ _ (position (k .args .id) (k .args .i) (k .pre .2) ∙ sym (c .before .step-skipped .ensures) ∙ c .if1 .taken))), omega arith)
+    rw (toZ-ofZ (k .fits .prev)) (sym (step-skip _ _ _ _ _ (position (k .args .id) (k .args .i) (k .pre .2) ∙ sym (c .before .step-skipped .ensures) ∙ c .if1 .taken)))
 
 read-se8-requires : tie.Need-read-se8-requires
 read-se8-requires c κs = search needs
@@ -38,7 +37,7 @@ module _ (c : tie.After-known-told) where
   start = read .before .before .before .before
 
   told : se8 .read (now (start .args .bytes)) (start .args .p) ≡ value (c .before .field .given .0 .0) (c .before .field .given .0 .1 .0 .«bit_pos»)
-  told = sym (read .read-se8 .ensures .0) ∙ ap outcomeS (c .before .field .given .1)
+  told = sym (read .read-se8 .ensures) ∙ ap outcomeS (c .before .field .given .1)
 
   value-is : toZ w32 (ofZ w32 (c .before .field .given .0 .0)) ≡ c .before .field .given .0 .0
   value-is = toZ-ofZ (record { sfits = c .known-told .given .0 .1 })
@@ -53,20 +52,16 @@ enum-known-field-2 : tie.Need-enum-known-field-2
 enum-known-field-2 c = search needs
 
 returns-2 : tie.Need-returns-2
-returns-2 c = (
-  rw (value-is c, toZ-ofZ (start c .fits .prev), toZ-ofZ (sum-fits c))
-      (sym (step-value _ _ _ _ _ (position (start c .args .id) (start c .args .i) (start c .pre .2) ∙ sym (read c .before .before .step-skipped .ensures) ∙ read c .before .if1 .left) (told c))),
-  ends-at _ (ap outcomeS (c .before .field .given .1)) (read c .read-se8 .ensures .1),
-)
+returns-2 c =
+    rw (value-is c, toZ-ofZ (start c .fits .prev), toZ-ofZ (sum-fits c))
+    (sym (step-value _ _ _ _ _ (position (start c .args .id) (start c .args .i) (start c .pre .2) ∙ sym (read c .before .before .step-skipped .ensures) ∙ read c .before .if1 .left) (told c)))
 
 returns-3 : tie.Need-returns-3
 returns-3 c =
     let r = c .before .before .before in
-    let b = r .before .before .before .before in (
-      sym (step-refused _ _ _ _ _ (position (b .args .id) (b .args .i) (b .pre .2) ∙ sym (r .before .before .step-skipped .ensures) ∙ r .before .if1 .left)
-          (sym (r .read-se8 .ensures .0) ∙ ap outcomeS (c .before .field2 .given .1))),
-      tt,
-    )
+    let b = r .before .before .before .before in
+    sym (step-refused _ _ _ _ _ (position (b .args .id) (b .args .i) (b .pre .2) ∙ sym (r .before .before .step-skipped .ensures) ∙ r .before .if1 .left)
+    (sym (r .read-se8 .ensures) ∙ ap outcomeS (c .before .field2 .given .1)))
 
 pub read-step-spec : {M : Type 1} → statement M
 read-step-spec =

@@ -9,7 +9,6 @@ use mir.Val.{toZ, ofZ}
 use mir.Facts.{toZ-ofZ}
 use Rattle.bitstream.specs.Reading.{outcomeS}
 use Rattle.aps.specs.ScalingSyntax.{stepAt}
-use Rattle.aps.proofs.Bounds.{ends-at}
 use Rattle.aps.proofs.ScalingLaws.{entries-le}
 use Rattle.aps.proofs.ScalingSteps.{Stepping, stepping-start, stepping-more, stepping-refused, stepping-done}
 use Rattle.aps.proofs.scaling_list_data.read_steps.Statement.{statement}
@@ -32,19 +31,19 @@ dc-is : (c : tie.Start Inv-loop μ-loop) → toZ w32 (ofZ w32 (c .args .dc)) ≡
 dc-is c = toZ-ofZ (c .fits .dc)
 
 loop-holds : tie.Need-loop-holds Inv-loop μ-loop
-loop-holds c = rw (dc-is (c .before .before)) (stepping-start _ _ _ _ _ _ (c .before .before .pre .3))
+loop-holds c = rw (dc-is (c .before .before)) (stepping-start _ _ _ _ _ _ (c .before .before .pre .1) (c .before .before .pre .3))
 
 read-step-requires : tie.Need-read-step-requires Inv-loop μ-loop
 read-step-requires c κs =
     let o = c .before .loop in
     let k = few (c .before .before) in
-    (c .before .before .before .before .pre .0, omega (arith, o .inv .near), omega arith, omega (arith, o .inv .small))
+    (c .before .before .before .before .pre .0, o .inv .near, omega arith, omega (arith, o .inv .small))
 
 -- what the step reads
 stepped : (c : tie.After-read-step Inv-loop μ-loop) → outcomeS (c .read-step .result)
     ≡ (stepAt (c .before .before .before .before .before .args .id) (c .before .before .loop .i) (toZ w32 (c .before .before .loop .sum))) .read
     (now (c .before .before .before .before .before .args .bytes)) (c .before .before .loop .at)
-stepped c = c .read-step .ensures .0
+stepped c = c .read-step .ensures
 
 enum-known-field : tie.Need-enum-known-field Inv-loop μ-loop
 enum-known-field c = search needs
@@ -69,7 +68,7 @@ returns c =
     let r = c .before .before .before in
     let l = r .before .before in
     let e = sym (stepped r) ∙ ap outcomeS (c .before .field2 .given .1) in
-    (rw (← l .before .matrix-entries .ensures, ← dc-is (l .before .before .before)) (stepping-refused _ _ _ _ _ _ _ _ _ _ (l .loop .inv) (r .before .loop-test .taken) e), tt)
+    rw (← l .before .matrix-entries .ensures, ← dc-is (l .before .before .before)) (stepping-refused _ _ _ _ _ _ _ _ _ _ (l .loop .inv) (r .before .loop-test .taken) e)
 
 add-i : tie.Need-add-i Inv-loop μ-loop
 add-i c = omega (arith, few (c .before .before .before .before .before .before))
@@ -83,16 +82,12 @@ loop-again c =
     let l = r .before .before in
     let e = sym (stepped r) ∙ ap outcomeS (c .before .field .given .1) in
     let f = toZ-ofZ {w = w32} {z = c .before .field .given .0 .0} (record { sfits = c .known-told .given .0 .1 }) in
-    rw f
-    (stepping-more _ _ _ _ _ _ _ _ _ _ (l .loop .inv) _ _ (r .before .loop-test .taken) e
-    (ends-at _ (ap outcomeS (c .before .field .given .1)) (r .read-step .ensures .1)))
+    rw f (stepping-more _ _ _ _ _ _ _ _ _ _ (l .loop .inv) _ _ (r .before .loop-test .taken) e)
 
 returns-2 : tie.Need-returns-2 Inv-loop μ-loop
 returns-2 c =
-    let l = c .before in (
-      rw (← l .before .matrix-entries .ensures, ← dc-is (l .before .before .before)) (stepping-done _ _ _ _ _ _ _ _ _ _ (l .loop .inv) (c .loop-test .left)),
-      omega (arith, l .loop .inv .near, few (l .before)),
-    )
+    let l = c .before in
+    rw (← l .before .matrix-entries .ensures, ← dc-is (l .before .before .before)) (stepping-done _ _ _ _ _ _ _ _ _ _ (l .loop .inv) (c .loop-test .left))
 
 pub read-steps-spec : {M : Type 1} → statement M
 read-steps-spec =
