@@ -15,7 +15,7 @@ use lib.Pow.{pow-pos, pow-mono}
 use mir.Syntax.{w32}
 use mir.Val.{toZ, ofZ, SFits}
 use mir.Facts.{toZ-pos, toZ-ofZ}
-use Rattle.bitstream.specs.Outcome.{Outcome, value, refused}
+use Rattle.bitstream.specs.Outcome.{value, refused}
 use Rattle.bitstream.specs.Bits.{bitAt, fieldAt}
 use Rattle.bitstream.specs.Fields.{zeroAt, zerosAt, suffixAt, ueValue, ueFrom, readUe, ueAsked, seValue}
 use Rattle.bitstream.proofs.FieldLaws.{bit-lt, field-none, field-lt, field-add, field-cons, field-snoc, bit-inside, word-top, leading-zero, leading-one}

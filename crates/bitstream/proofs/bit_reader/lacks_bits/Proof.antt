@@ -1,7 +1,6 @@
 -- `lacks_bits` is `lacks`, by the test that both make.
 use borrow.Author.Needs.{needs}
 use borrow.Author.Tests.{lt-ltb}
-use mathlib.Core.Path.{_≡_}
 use native.Mathlib.Omega.{arith}
 use Rattle.bitstream.specs.Fields.{lacks}
 use Rattle.bitstream.proofs.bit_reader.lacks_bits.Statement.{statement}
