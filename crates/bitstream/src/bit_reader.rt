@@ -3,11 +3,11 @@ use crate::LAST_START;
 use crate::LONGEST_INPUT;
 use crate::Refusal;
 ghost use mathlib.Core.Path.{_≡_};
+ghost use mathlib.Core.Bool.{false};
 ghost use Prim.Native.Nat.{_+_, _-_, _*_, _/_, _%_, _^_, _≤_, _<_};
 ghost use lib.ListN.{length, getD};
 ghost use Rattle.bitstream.specs.Bits.{fieldAt};
 ghost use lib.Count.{leadingZeros};
-ghost use mathlib.Core.Bool.{false};
 ghost use Rattle.bitstream.specs.Outcome.{value, refused, mapOutcome, number};
 ghost use Rattle.bitstream.specs.Fields.{lacks, zerosAt, suffixAt, readUe, ueAsked, seValue};
 ghost use Rattle.bitstream.specs.Reading.{outcomeU, outcomeS, outcomeT, BelowMost};
@@ -275,12 +275,12 @@ impl BitReader {
         if p % 8 + n as usize <= 8 {
             ReadU {
                 field: FieldU::Value(narrow(bytes, p, n), after),
-                lacking: lacking,
+                lacking,
             }
         } else {
             ReadU {
                 field: FieldU::Value(wide(bytes, p, n), after),
-                lacking: lacking,
+                lacking,
             }
         }
     }

@@ -94,7 +94,8 @@ fn sized(s: Size, answer: &mut [u64; 1]) -> u32
 #[no_mangle]
 pub extern "C" fn bitstream_u(bytes: &[u8], at: usize, n: u32, answer: &mut [u64; 3]) -> u32
     ensures code { λ r. ⌜ r ≡ code (uAt (now (bytes .entry)) at n) ⌝ }
-    ensures answer { λ _. ⌜ now (answer .exit) ≡ answered (uAt (now (bytes .entry)) at n) (uLacking (now (bytes .entry)) at n) (now (answer .entry)) ⌝ }
+    ensures answer { λ _. ⌜ now (answer .exit) ≡
+        answered (uAt (now (bytes .entry)) at n) (uLacking (now (bytes .entry)) at n) (now (answer .entry)) ⌝ }
 {
     unsigned((BitReader { bit_pos: at }).u(bytes, n), answer)
 }
@@ -102,7 +103,8 @@ pub extern "C" fn bitstream_u(bytes: &[u8], at: usize, n: u32, answer: &mut [u64
 #[no_mangle]
 pub extern "C" fn bitstream_ue(bytes: &[u8], at: usize, answer: &mut [u64; 3]) -> u32
     ensures code { λ r. ⌜ r ≡ code (ueAt (now (bytes .entry)) at) ⌝ }
-    ensures answer { λ _. ⌜ now (answer .exit) ≡ answered (ueAt (now (bytes .entry)) at) (ueLacking (now (bytes .entry)) at) (now (answer .entry)) ⌝ }
+    ensures answer { λ _. ⌜ now (answer .exit) ≡
+        answered (ueAt (now (bytes .entry)) at) (ueLacking (now (bytes .entry)) at) (now (answer .entry)) ⌝ }
 {
     unsigned((BitReader { bit_pos: at }).ue(bytes), answer)
 }
@@ -110,7 +112,8 @@ pub extern "C" fn bitstream_ue(bytes: &[u8], at: usize, answer: &mut [u64; 3]) -
 #[no_mangle]
 pub extern "C" fn bitstream_se(bytes: &[u8], at: usize, answer: &mut [i64; 3]) -> u32
     ensures code { λ r. ⌜ r ≡ code (seAt (now (bytes .entry)) at) ⌝ }
-    ensures answer { λ _. ⌜ now (answer .exit) ≡ answeredSigned (seAt (now (bytes .entry)) at) (seLacking (now (bytes .entry)) at) (now (answer .entry)) ⌝ }
+    ensures answer { λ _. ⌜ now (answer .exit) ≡
+        answeredSigned (seAt (now (bytes .entry)) at) (seLacking (now (bytes .entry)) at) (now (answer .entry)) ⌝ }
 {
     signed((BitReader { bit_pos: at }).se(bytes), answer)
 }
