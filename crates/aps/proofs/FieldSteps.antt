@@ -16,7 +16,7 @@ use Rattle.bitstream.proofs.FieldLaws.{field-lt}
 use Rattle.bitstream.proofs.CallLaws.{ue-in, se-lacks}
 use Rattle.bitstream.proofs.CallLaws as Call
 use Rattle.aps.specs.Codec.{Codec, whole, u, ue, _▷_, via, judged, when, eachFrom}
-use Rattle.aps.specs.Elements.{flag, ueTo, se, signed}
+use Rattle.aps.specs.Elements.{flag, ueTo, se, noFlag, signed}
 use Rattle.aps.proofs.FieldLaws.{lacks-none, lacks-inside}
 use Rattle.aps.proofs.Gives.{Gives, given}
 
@@ -146,8 +146,8 @@ unfolding ueTo judged
 ueTo-read most s p = refl
 
 pub signed-read : (c : Codec ℕ) (s : List ℕ) (p : ℕ)
-    → (signed c) .read s p ≡ _then_ (c .read s p) (λ m q. _then_ (cond (not (eqb m 0)) (flag .read s q) (value false q)) (λ b r. value (m, b) r))
-unfolding signed _▷_ when
+    → (signed c) .read s p ≡ _then_ (c .read s p) (λ m q. _then_ ((when (not (eqb m 0)) noFlag flag) .read s q) (λ b r. value (m, b) r))
+unfolding signed _▷_
 signed-read c s p = refl
 
 -- the magnitude is of n bits
@@ -159,6 +159,6 @@ signed-u-lt n s p e = given (λ (x : ℕ × Bool). x .0 < 2 ^ n) e (rw (signed-r
     last (refused k) = tt
 
     first : (t : Bool) → Gives (λ (x : ℕ × Bool). x .0 < 2 ^ n)
-        (_then_ (cond t (refused 1) (value (fieldAt s p n) (p + n))) (λ m q. _then_ (cond (not (eqb m 0)) (flag .read s q) (value false q)) (λ b r. value (m, b) r)))
+        (_then_ (cond t (refused 1) (value (fieldAt s p n) (p + n))) (λ m q. _then_ ((when (not (eqb m 0)) noFlag flag) .read s q) (λ b r. value (m, b) r)))
     first true = tt
-    first false = last (cond (not (eqb (fieldAt s p n) 0)) (flag .read s (p + n)) (value false (p + n)))
+    first false = last ((when (not (eqb (fieldAt s p n) 0)) noFlag flag) .read s (p + n))

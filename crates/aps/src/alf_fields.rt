@@ -2,7 +2,7 @@
 use crate::fields::SignedField;
 use crate::fields::Stop;
 use crate::fields::lacks_bits;
-use crate::fields::read_flag;
+use crate::fields::read_sign;
 use crate::fields::read_u;
 use crate::fields::read_ue;
 use bitstream::Refusal;
@@ -53,24 +53,7 @@ pub(crate) fn read_coefficient(bytes: &[u8], p: usize) -> SignedField
 {
     let magnitude = read_ue_to(bytes, p, 128);
     match magnitude {
-        FieldU::Value(abs, r) => {
-            let q = r.bit_pos;
-            if abs == 0 {
-                return SignedField::Value {
-                    abs: 0,
-                    sign: false,
-                    next: q,
-                };
-            }
-            if lacks_bits(bytes, q, 1) {
-                return SignedField::Refused(Refusal::UnexpectedEnd);
-            }
-            SignedField::Value {
-                abs,
-                sign: read_flag(bytes, q),
-                next: q + 1,
-            }
-        }
+        FieldU::Value(abs, r) => read_sign(bytes, r.bit_pos, abs),
         FieldU::Refused(why) => SignedField::Refused(why),
     }
 }

@@ -8,11 +8,12 @@ ghost use mathlib.Core.Bool.{not};
 ghost use Prim.Native.Nat.{_*_, _≤_};
 ghost use lib.Dec.{eqb};
 ghost use lib.ListN.{length};
+ghost use Rattle.bitstream.specs.Outcome.{value, _then_};
 ghost use Rattle.bitstream.specs.Bits.{fieldAt};
 ghost use Rattle.bitstream.specs.Fields.{lacks};
 ghost use Rattle.bitstream.specs.Reading.{outcomeU, outcomeS};
-ghost use Rattle.aps.specs.Codec.{u, ue};
-ghost use Rattle.aps.specs.Elements.{se, signed};
+ghost use Rattle.aps.specs.Codec.{u, ue, when};
+ghost use Rattle.aps.specs.Elements.{flag, se, noFlag, signed};
 ghost use Rattle.aps.specs.Inner.{outcomeSigned};
 
 // Where a run of fields ended, or why it was refused.
@@ -85,6 +86,29 @@ pub(crate) fn read_se(bytes: &[u8], p: usize) -> FieldS
     field
 }
 
+// The sign of a magnitude, if it is not 0.
+pub(crate) fn read_sign(bytes: &[u8], p: usize, abs: u32) -> SignedField
+    requires { ⌜ (length (now bytes) ≤ 65536) × (p ≤ 1000000) ⌝ }
+    ensures { λ r. ⌜ outcomeSigned r
+        ≡ ((when (not (eqb abs 0)) noFlag flag) .read (now (bytes .entry)) p then λ sign q. value (abs, sign) q) ⌝ }
+{
+    if abs == 0 {
+        return SignedField::Value {
+            abs: 0,
+            sign: false,
+            next: p,
+        };
+    }
+    if lacks_bits(bytes, p, 1) {
+        return SignedField::Refused(Refusal::UnexpectedEnd);
+    }
+    SignedField::Value {
+        abs,
+        sign: read_flag(bytes, p),
+        next: p + 1,
+    }
+}
+
 // A magnitude u(n), and its sign if it is not 0.
 pub(crate) fn read_signed(bytes: &[u8], p: usize, n: u32) -> SignedField
     requires { ⌜ (length (now bytes) ≤ 65536) × (p ≤ length (now bytes) * 8) × (n ≤ 32) ⌝ }
@@ -94,20 +118,5 @@ pub(crate) fn read_signed(bytes: &[u8], p: usize, n: u32) -> SignedField
         return SignedField::Refused(Refusal::UnexpectedEnd);
     }
     let abs = read_u(bytes, p, n);
-    let q = p + n as usize;
-    if abs == 0 {
-        return SignedField::Value {
-            abs: 0,
-            sign: false,
-            next: q,
-        };
-    }
-    if lacks_bits(bytes, q, 1) {
-        return SignedField::Refused(Refusal::UnexpectedEnd);
-    }
-    SignedField::Value {
-        abs,
-        sign: read_flag(bytes, q),
-        next: q + 1,
-    }
+    read_sign(bytes, p + n as usize, abs)
 }

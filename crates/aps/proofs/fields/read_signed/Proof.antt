@@ -1,10 +1,8 @@
--- `read_signed`: a sign is read after a magnitude that is not 0.
+-- `read_signed`: the magnitude's bits are there, and then its sign.
 use borrow.Author.Needs.{needs}
-use borrow.Author.Tests.{ne-eqb}
 use mathlib.Core.Path.{sym, _∙_}
-use Prim.Native.Nat.{_+_}
 use denote.Ref.{now}
-use Rattle.aps.proofs.FieldSteps.{u-here, u-lacking, flag-here, flag-lacking, signed-read}
+use Rattle.aps.proofs.FieldSteps.{u-here, u-lacking, signed-read}
 use Rattle.aps.proofs.fields.read_signed.Statement.{statement}
 use Rattle.aps.proofs.fields.read_signed.Tie as tie
 
@@ -19,43 +17,17 @@ returns c =
 read-u-requires : tie.Need-read-u-requires
 read-u-requires c κs = search needs
 
-add-q : tie.Need-add-q
-add-q c = search needs
+add-read-sign : tie.Need-add-read-sign
+add-read-sign c = search needs
+
+read-sign-requires : tie.Need-read-sign-requires
+read-sign-requires c κs = search needs
 
 returns-2 : tie.Need-returns-2
 returns-2 c =
-    let k = c .before in
-    let a = k .before .before .before .before .args in
-    let there = sym (k .before .before .lacks-bits .ensures) ∙ k .before .if1 .left in
-    rw (signed-read, u-here (a .n) (now (a .bytes)) (a .p) there, ← k .read-u .ensures, c .if2 .taken)
-
-lacks-bits-requires-2 : tie.Need-lacks-bits-requires-2
-lacks-bits-requires-2 c κs = search needs
-
-returns-3 : tie.Need-returns-3
-returns-3 c =
-    let k = c .before .before .before in
-    let a = k .before .before .before .before .args in
-    let s = now (a .bytes) in
-    let there = sym (k .before .before .lacks-bits .ensures) ∙ k .before .if1 .left in
-    let sign = sym (c .before .lacks-bits2 .ensures) ∙ c .if3 .taken in
-    rw (signed-read, u-here (a .n) s (a .p) there, ← k .read-u .ensures, ne-eqb _ _ (c .before .before .if2 .left), flag-lacking s (a .p + a .n) sign)
-
-read-flag-requires : tie.Need-read-flag-requires
-read-flag-requires c κs = search needs
-
-add-t7 : tie.Need-add-t7
-add-t7 c = search needs
-
-returns-4 : tie.Need-returns-4
-returns-4 c =
-    let d = c .before in
-    let k = d .before .before .before in
-    let a = k .before .before .before .before .args in
-    let s = now (a .bytes) in
-    let there = sym (k .before .before .lacks-bits .ensures) ∙ k .before .if1 .left in
-    let sign = sym (d .before .lacks-bits2 .ensures) ∙ d .if3 .left in
-    rw (signed-read, u-here (a .n) s (a .p) there, ← k .read-u .ensures, ne-eqb _ _ (d .before .before .if2 .left), flag-here s (a .p + a .n) sign, c .read-flag .ensures)
+    let d = c .before .before in
+    let a = d .before .before .before .args in
+    rw (signed-read, u-here (a .n) (now (a .bytes)) (a .p) (sym (d .before .lacks-bits .ensures) ∙ d .if1 .left), ← c .before .read-u .ensures) (c .read-sign .ensures)
 
 pub read-signed-spec : {M : Type 1} → statement M
 read-signed-spec =
@@ -64,10 +36,6 @@ read-signed-spec =
     lacks-bits-requires
     returns
     read-u-requires
-    add-q
-    returns-2
-    lacks-bits-requires-2
-    returns-3
-    read-flag-requires
-    add-t7
-    returns-4)
+    add-read-sign
+    read-sign-requires
+    returns-2)
