@@ -207,12 +207,6 @@ ue-max s p e =
     let h = ue-value s p e in
     rw (h .1) (ue-lt _ _ (h .0) (field-lt s (suffixAt s p (zerosAt s p 32)) (zerosAt s p 32)))
 
--- no ue takes more than 63 bits
-pub ue-end : (s : List ℕ) (p : ℕ) {v q : ℕ} → value v q ≡ readUe s p → q ≤ p + 63
-ue-end s p e =
-    let h = ue-value s p e in
-    omega (arith, h .0, h .2, suffix-le s p (zerosAt s p 32))
-
 -- a count that ends before its limit and inside the input ends at a 1 bit
 zeros-found : (s : List ℕ) (p m : ℕ) → zerosAt s p m < m → p + zerosAt s p m < length s * 8
     → (fieldAt s p (zerosAt s p m) ≡ 0) × (bitAt s (p + zerosAt s p m) ≡ 1)
