@@ -1,6 +1,6 @@
 -- One field: what it is where its bits are there, and where bits are lacking.
 use mathlib.Core.Path.{_≡_, refl, sym, _∙_}
-use mathlib.Core.Bool.{Bool, true, false, cond, not, _&&_}
+use mathlib.Core.Bool.{Bool, true, false, cond, not}
 use mathlib.Core.List.{List, _∷_}
 use Prim.Native.Nat.{ℕ, zero, suc, _+_, _*_, _^_, _≤_, _<_}
 use native.Mathlib.Nat.{mul-suc}
@@ -18,6 +18,7 @@ use Rattle.bitstream.proofs.CallLaws as Call
 use Rattle.aps.specs.Codec.{Codec, whole, u, ue, _▷_, via, judged, when, eachFrom}
 use Rattle.aps.specs.Elements.{flag, ueTo, se, noFlag, signed}
 use Rattle.aps.proofs.FieldLaws.{lacks-none, lacks-inside}
+use Rattle.aps.proofs.CodecLaws.{and-left, and-right}
 use Rattle.aps.proofs.Gives.{Gives, given}
 
 -- ---- bits that are there, and bits that are lacking
@@ -25,12 +26,10 @@ use Rattle.aps.proofs.Gives.{Gives, given}
 module _ (s : List ℕ) (p n : ℕ) where
   lacks-true : lacks s p n ≡ true → (0 < n) × (length s * 8 < p + n)
   unfolding lacks
-  lacks-true e = go (ltb 0 n) (ltb (length s * 8) (p + n)) refl refl e
-    where
-      go : (a b : Bool) → ltb 0 n ≡ a → ltb (length s * 8) (p + n) ≡ b → (a && b) ≡ true → (0 < n) × (length s * 8 < p + n)
-      go true true f g e = (ltb-true _ _ f, ltb-true _ _ g)
-      go true false f g e = let z : _≡_ {A = ℕ} 0 1 = cc in absurd (omega arith)
-      go false b f g e = let z : _≡_ {A = ℕ} 0 1 = cc in absurd (omega arith)
+  lacks-true e =
+      let some = ltb 0 n in
+      let past = ltb (length s * 8) (p + n) in
+      (ltb-true _ _ (and-left some past e), ltb-true _ _ (and-right some past e))
 
   lacks-past : 0 < n → length s * 8 < p + n → lacks s p n ≡ true
   unfolding lacks
@@ -46,7 +45,7 @@ unfolding lacks
 lacks-part s p n q zero e h l = refl
 lacks-part s p n q (suc m) e h l = let k = lacks-none s p n (omega arith) e in lacks-inside s q (suc m) (omega arith)
 
--- the first w bits of some that are lacking are there
+-- where the first w of w + n bits are there, bits are lacking for the rest
 lacks-rest : (s : List ℕ) (p w n : ℕ) → lacks s p w ≡ false → lacks s p (w + n) ≡ true → lacks s (p + w) n ≡ true
 lacks-rest s p w zero e f = let (a, b) = lacks-true s p (w + 0) f in let k = lacks-none s p w (omega arith) e in absurd (omega arith)
 lacks-rest s p w (suc n) e f = let (a, b) = lacks-true s p (w + suc n) f in lacks-past s (p + w) (suc n) (omega arith) (omega arith)
