@@ -270,7 +270,7 @@ fn alf_set(bytes: &[u8], id: u8, chroma: bool) -> ApsReading
                 ApsOutcome::Refused(why) => refuse(why),
             }
         }
-        Stop::Refused(why) => refuse(why),
+        Stop::Refused(first) => refuse(first),
     }
 }
 
