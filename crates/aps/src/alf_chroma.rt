@@ -1,20 +1,14 @@
 // The chroma and cross-component filters of alf_data().
 use crate::alf::CcRead;
-use crate::alf::ChromaRead;
-use crate::alf::VvcAlfCcFilters;
-use crate::alf::VvcAlfChroma;
-use crate::alf::no_cc;
-use crate::alf::no_chroma;
+use crate::alf::FiltersRead;
 use crate::alf_fields::clips_sent;
 use crate::alf_fields::read_clips;
 use crate::alf_fields::read_coefficients;
+use crate::alf_fields::read_filters_head;
 use crate::alf_fields::read_ue_to;
 use crate::fields::SignedField;
 use crate::fields::Stop;
-use crate::fields::lacks_bits;
-use crate::fields::read_flag;
 use crate::fields::read_signed;
-use bitstream::Refusal;
 use bitstream::bit_reader::FieldU;
 ghost use mathlib.Core.Path.{_≡_};
 ghost use mathlib.Core.Bool.{true, false};
@@ -24,7 +18,7 @@ ghost use lib.Seq.{sets};
 ghost use Rattle.bitstream.specs.Outcome.{mapOutcome};
 ghost use Rattle.aps.specs.Elements.{zipped};
 ghost use Rattle.aps.specs.AlfSyntax.{chroma, alternative, alternatives, chromaArrays, cc, ccCoefficients};
-ghost use Rattle.aps.specs.Inner.{outcomeStop};
+ghost use Rattle.aps.specs.Inner.{outcomeStop, chromaOf, ccOf};
 
 // One alternative: its coefficients and its clips.
 struct Alternative {
@@ -106,47 +100,31 @@ fn read_alternatives(
 }
 
 // The chroma filters.
-pub(crate) fn read_chroma(bytes: &[u8], p: usize) -> ChromaRead
-    requires { ⌜ (length (now bytes) ≤ 65536) × (p ≤ length (now bytes) * 8) ⌝ }
-    ensures { λ r. ⌜ outcomeStop (r .stop) (r .chroma) ≡ (chroma true) .read (now (bytes .entry)) p ⌝ }
+pub(crate) fn read_chroma(
+    bytes: &[u8],
+    p: usize,
+    abs: &mut [u32; 48],
+    sign: &mut [bool; 48],
+    clips: &mut [u8; 48],
+) -> FiltersRead
+    requires { ⌜ (length (now bytes) ≤ 65536) × (p ≤ length (now bytes) * 8)
+        × (now abs ≡ replicate 48 0) × (now sign ≡ replicate 48 false) × (now clips ≡ replicate 48 0) ⌝ }
+    ensures { λ r. ⌜ outcomeStop (r .stop) (chromaOf (r .clip) (r .«count_minus1») (now (abs .exit)) (now (sign .exit)) (now (clips .exit)))
+        ≡ (chroma true) .read (now (bytes .entry)) p ⌝ }
 {
-    if lacks_bits(bytes, p, 1) {
-        return ChromaRead {
-            stop: Stop::Refused(Refusal::UnexpectedEnd),
-            chroma: no_chroma(),
-        };
-    }
-    let clip = read_flag(bytes, p);
-    let count = read_ue_to(bytes, p + 1, 7);
-    match count {
-        FieldU::Value(n, r) => {
-            let mut abs = [0u32; 48];
-            let mut sign = [false; 48];
-            let mut clips = [0u8; 48];
-            let stop = read_alternatives(
-                bytes,
-                r.bit_pos,
-                clip,
-                n,
-                &mut abs,
-                &mut sign,
-                &mut clips,
-            );
-            ChromaRead {
-                stop,
-                chroma: VvcAlfChroma {
-                    alf_chroma_clip_flag: clip,
-                    alf_chroma_num_alt_filters_minus1: n,
-                    coeff_abs: abs,
-                    coeff_sign: sign,
-                    clip_idx: clips,
-                },
-            }
-        }
-        FieldU::Refused(why) => ChromaRead {
-            stop: Stop::Refused(why),
-            chroma: no_chroma(),
-        },
+    let head = read_filters_head(bytes, p, 7);
+    let clip = head.clip;
+    let count_minus1 = head.count_minus1;
+    let at = head.stop;
+    let q = match at {
+        Stop::End(q) => q,
+        Stop::Refused(_) => return head,
+    };
+    let stop = read_alternatives(bytes, q, clip, count_minus1, abs, sign, clips);
+    FiltersRead {
+        stop,
+        clip,
+        count_minus1,
     }
 }
 
@@ -185,28 +163,19 @@ fn read_cc_coefficients(
 }
 
 // The filters of Cb or Cr.
-pub(crate) fn read_cc(bytes: &[u8], p: usize) -> CcRead
-    requires { ⌜ (length (now bytes) ≤ 65536) × (p ≤ length (now bytes) * 8) ⌝ }
-    ensures { λ r. ⌜ outcomeStop (r .stop) (r .cc) ≡ (cc true) .read (now (bytes .entry)) p ⌝ }
+pub(crate) fn read_cc(bytes: &[u8], p: usize, abs: &mut [u8; 28], sign: &mut [bool; 28]) -> CcRead
+    requires { ⌜ (length (now bytes) ≤ 65536) × (p ≤ length (now bytes) * 8) × (now abs ≡ replicate 28 0) × (now sign ≡ replicate 28 false) ⌝ }
+    ensures { λ r. ⌜ outcomeStop (r .stop) (ccOf (r .«count_minus1») (now (abs .exit)) (now (sign .exit))) ≡ (cc true) .read (now (bytes .entry)) p ⌝ }
 {
     let count = read_ue_to(bytes, p, 3);
     match count {
-        FieldU::Value(n, r) => {
-            let mut abs = [0u8; 28];
-            let mut sign = [false; 28];
-            let stop = read_cc_coefficients(bytes, r.bit_pos, n, &mut abs, &mut sign);
-            CcRead {
-                stop,
-                cc: VvcAlfCcFilters {
-                    filters_signalled_minus1: n,
-                    mapped_coeff_abs: abs,
-                    coeff_sign: sign,
-                },
-            }
+        FieldU::Value(count_minus1, r) => {
+            let stop = read_cc_coefficients(bytes, r.bit_pos, count_minus1, abs, sign);
+            CcRead { stop, count_minus1 }
         }
         FieldU::Refused(why) => CcRead {
             stop: Stop::Refused(why),
-            cc: no_cc(),
+            count_minus1: 0,
         },
     }
 }

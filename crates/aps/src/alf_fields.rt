@@ -1,7 +1,9 @@
 // The fields that the filters of alf_data() are made of.
+use crate::alf::FiltersRead;
 use crate::fields::SignedField;
 use crate::fields::Stop;
 use crate::fields::lacks_bits;
+use crate::fields::read_flag;
 use crate::fields::read_sign;
 use crate::fields::read_u;
 use crate::fields::read_ue;
@@ -13,8 +15,8 @@ ghost use Prim.Native.Nat.{_*_, _≤_};
 ghost use lib.Dec.{ltb};
 ghost use lib.ListN.{length, replicate};
 ghost use Rattle.bitstream.specs.Reading.{outcomeU};
-ghost use Rattle.aps.specs.Codec.{u, when, each};
-ghost use Rattle.aps.specs.Elements.{ueTo, noNumber, noSigned, apart};
+ghost use Rattle.aps.specs.Codec.{u, _▷_, when, each};
+ghost use Rattle.aps.specs.Elements.{flag, ueTo, noNumber, noSigned, apart};
 ghost use Rattle.aps.specs.AlfSyntax.{ceilLog2, coefficient};
 ghost use Rattle.aps.specs.Inner.{outcomeStop, outcomeSigned, after, StopsBy};
 
@@ -43,6 +45,37 @@ pub(crate) fn read_ue_to(bytes: &[u8], p: usize, most: u32) -> FieldU
             }
         }
         FieldU::Refused(why) => FieldU::Refused(why),
+    }
+}
+
+// The clip flag, and the count less one.
+pub(crate) fn read_filters_head(bytes: &[u8], p: usize, most: u32) -> FiltersRead
+    requires { ⌜ (length (now bytes) ≤ 65536) × (p ≤ length (now bytes) * 8) ⌝ }
+    ensures { λ r. ⌜ outcomeStop (r .stop) (r .clip, r .«count_minus1») ≡ (flag ▷ λ clip. ueTo most) .read (now (bytes .entry)) p ⌝ }
+{
+    if lacks_bits(bytes, p, 1) {
+        return no_filters(Refusal::UnexpectedEnd);
+    }
+    let clip = read_flag(bytes, p);
+    let count = read_ue_to(bytes, p + 1, most);
+    match count {
+        FieldU::Value(count_minus1, r) => FiltersRead {
+            stop: Stop::End(r.bit_pos),
+            clip,
+            count_minus1,
+        },
+        FieldU::Refused(why) => no_filters(why),
+    }
+}
+
+// No filters.
+fn no_filters(why: Refusal) -> FiltersRead
+    ensures { λ r. ⌜ r .stop ≡ Stop.Refused why ⌝ }
+{
+    FiltersRead {
+        stop: Stop::Refused(why),
+        clip: false,
+        count_minus1: 0,
     }
 }
 

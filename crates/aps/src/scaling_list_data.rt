@@ -4,35 +4,27 @@ use crate::fields::lacks_bits;
 use crate::fields::read_flag;
 use crate::fields::read_se;
 use crate::fields::read_ue;
-use crate::scaling_list::VvcScalingListData;
 use crate::scaling_list::delta_sent;
 use crate::scaling_list::matrix_entries;
 use crate::scaling_list::max_id_delta;
 use crate::scaling_list::scaling_id_coded;
 use crate::scaling_list::step_skipped;
-use crate::scaling_list::zero_scaling;
 use bitstream::Refusal;
 use bitstream::bit_reader::BitReader;
 use bitstream::bit_reader::FieldS;
 use bitstream::bit_reader::FieldU;
 ghost use mathlib.Core.Path.{_≡_};
-ghost use mathlib.Core.Bool.{cond};
+ghost use mathlib.Core.Bool.{cond, false};
 ghost use Prim.Native.Nat.{_-_, _*_, _≤_, _<_};
 ghost use lib.Dec.{ltb};
 ghost use lib.IntN.{pos, negsuc, natAbs};
-ghost use lib.ListN.{length, set};
+ghost use lib.ListN.{length, set, replicate};
 ghost use lib.Seq.{sets};
 ghost use Rattle.bitstream.specs.Outcome.{mapOutcome};
 ghost use Rattle.bitstream.specs.Reading.{outcomeU, outcomeS};
 ghost use Rattle.aps.specs.Elements.{seIn};
-ghost use Rattle.aps.specs.Inner.{storedList, stored, outcomeStop, outcomeCoefficients, outcomeId};
+ghost use Rattle.aps.specs.Inner.{storedList, stored, scalingOf, outcomeStop, outcomeCoefficients, outcomeId};
 ghost use Rattle.aps.specs.ScalingSyntax.{entries, stepAt, sums, dcAt, deltaAt, coefficients, entrySyntax, idAt, scalingSyntax, keep};
-
-// What reading scaling_list_data() gives.
-pub(crate) struct ScalingRead {
-    pub stop: Stop,
-    pub scaling: VvcScalingListData,
-}
 
 // The DC of one id; its list is stored in the flat array.
 struct CoefficientsRead {
@@ -247,46 +239,39 @@ fn store_dc(dc: &mut [i32; 14], id: usize, value: i32)
     }
 }
 
-// scaling_list_data().
-pub(crate) fn parse_scaling_list_data(bytes: &[u8], p: usize, chroma: bool) -> ScalingRead
-    requires { ⌜ (length (now bytes) ≤ 65536) × (p ≤ length (now bytes) * 8) ⌝ }
-    ensures { λ r. ⌜ outcomeStop (r .stop) (r .scaling) ≡ mapOutcome keep ((scalingSyntax chroma) .read (now (bytes .entry)) p) ⌝ }
+// scaling_list_data(), into arrays of zeros.
+pub(crate) fn parse_scaling_list_data(
+    bytes: &[u8],
+    p: usize,
+    chroma: bool,
+    copy: &mut [bool; 28],
+    pred: &mut [bool; 28],
+    delta: &mut [u32; 28],
+    dc: &mut [i32; 14],
+    list: &mut [i32; 1792],
+) -> Stop
+    requires { ⌜ (length (now bytes) ≤ 65536) × (p ≤ length (now bytes) * 8)
+        × (now copy ≡ replicate 28 false) × (now pred ≡ replicate 28 false) × (now delta ≡ replicate 28 0)
+        × (now dc ≡ replicate 14 (pos 0)) × (now list ≡ replicate 1792 (pos 0)) ⌝ }
+    ensures { λ r. ⌜ outcomeStop r (scalingOf (now (copy .exit)) (now (pred .exit)) (now (delta .exit)) (now (dc .exit)) (now (list .exit)))
+        ≡ mapOutcome keep ((scalingSyntax chroma) .read (now (bytes .entry)) p) ⌝ }
 {
-    let mut copy = [false; 28];
-    let mut pred = [false; 28];
-    let mut delta = [0u32; 28];
-    let mut dc = [0i32; 14];
-    let mut list = [0i32; 1792];
     let mut at = p;
     let mut id: usize = 0;
     while id < 28 {
-        let read = read_id(bytes, at, chroma, id, &mut list);
+        let read = read_id(bytes, at, chroma, id, list);
         let stop = read.stop;
         match stop {
             Stop::End(next) => {
                 at = next;
             }
-            Stop::Refused(why) => {
-                return ScalingRead {
-                    stop: Stop::Refused(why),
-                    scaling: zero_scaling(),
-                };
-            }
+            Stop::Refused(why) => return Stop::Refused(why),
         }
         copy[id] = read.copy;
         pred[id] = read.pred;
         delta[id] = read.delta;
-        store_dc(&mut dc, id, read.dc);
+        store_dc(dc, id, read.dc);
         id += 1;
     }
-    ScalingRead {
-        stop: Stop::End(at),
-        scaling: VvcScalingListData {
-            copy_mode_flag: copy,
-            pred_mode_flag: pred,
-            pred_id_delta: delta,
-            dc_coef: dc,
-            scaling_list: list,
-        },
-    }
+    Stop::End(at)
 }
