@@ -20,7 +20,9 @@ abbrev μ-loop : tie.MeasureT-loop
 μ-loop bytes p chroma copy₀ pred₀ delta₀ dc₀ list₀ at₀ id₀ copy pred delta dc list at id = 28 - id
 
 loop-holds : tie.Need-loop-holds Inv-loop μ-loop
-loop-holds c = keeping-start _ _ _ (c .before .pre .1)
+loop-holds c =
+    let z = c .before .pre in
+    keeping-start _ _ _ _ _ _ _ _ (z .1) (z .2) (z .3) (z .4) (z .5) (z .6)
 
 read-id-requires : tie.Need-read-id-requires Inv-loop μ-loop
 read-id-requires c κs =
@@ -45,27 +47,24 @@ enum-known-stop c = search needs
 enum-known-stop-2 : tie.Need-enum-known-stop-2 Inv-loop μ-loop
 enum-known-stop-2 c = search needs
 
-zero-scaling-requires : tie.Need-zero-scaling-requires Inv-loop μ-loop
-zero-scaling-requires c κs = search needs
-
 returns : tie.Need-returns Inv-loop μ-loop
 returns c =
-    let r = c .before .before .before .before in
+    let r = c .before .before .before in
     let l = r .before .before .before in
-    let e = sym (ap (λ (t : Stop). outcomeStop {A = Entry} t (entry r)) (c .before .before .stop2 .given .1)) ∙ stored-entry r in
+    let e = sym (ap (λ (t : Stop). outcomeStop {A = Entry} t (entry r)) (c .before .stop2 .given .1)) ∙ stored-entry r in
     keeping-refused _ _ _ _ _ _ _ _ _ _ (l .loop .inv) _ (r .before .before .loop-test .taken) e
 
-array-write-copy : tie.Need-array-write-copy Inv-loop μ-loop
-array-write-copy c = search needs
+element-write-copy : tie.Need-element-write-copy Inv-loop μ-loop
+element-write-copy c = search needs
 
-array-write-pred : tie.Need-array-write-pred Inv-loop μ-loop
-array-write-pred c = search needs
+element-write-pred : tie.Need-element-write-pred Inv-loop μ-loop
+element-write-pred c = search needs
 
 mul-delta : tie.Need-mul-delta Inv-loop μ-loop
 mul-delta c = search needs
 
-array-write-delta : tie.Need-array-write-delta Inv-loop μ-loop
-array-write-delta c = search needs
+element-write-delta : tie.Need-element-write-delta Inv-loop μ-loop
+element-write-delta c = search needs
 
 store-dc-requires : tie.Need-store-dc-requires Inv-loop μ-loop
 store-dc-requires c κs = search needs
@@ -100,12 +99,11 @@ parse-scaling-list-data-spec =
     read-id-requires
     enum-known-stop
     enum-known-stop-2
-    zero-scaling-requires
     returns
-    array-write-copy
-    array-write-pred
+    element-write-copy
+    element-write-pred
     mul-delta
-    array-write-delta
+    element-write-delta
     store-dc-requires
     add-id
     loop-less
