@@ -1,15 +1,16 @@
 -- For the proofs' sake: what the inner functions promise each other on the way. No public contract says anything of this file.
 use mathlib.Core.Path.{_≡_}
 use mathlib.Core.Bool.{Bool, true, false, cond, not}
-use mathlib.Core.List.{List, []}
-use Prim.Native.Nat.{ℕ, _+_, _*_, _≤_}
-use lib.Dec.{eqb}
+use mathlib.Core.List.{List, [], _∷_}
+use Prim.Native.Nat.{ℕ, _+_, _*_, _/_, _%_, _^_, _≤_}
+use lib.Dec.{eqb, ltb}
 use lib.IntN.{ℤ}
 use lib.ListN.{length, take}
 use lib.Seq.{sets}
 use Rattle.bitstream.specs.Outcome.{Outcome, value, refused, number, _then_}
 use Rattle.bitstream.specs.Bits.{fieldAt, putBits}
 use Rattle.bitstream.specs.Fields.{lacks}
+use Rattle.bitstream.specs.Windows.{IsWindow}
 use Rattle.bitstream.specs.declared.Refusal.{Refusal}
 use Rattle.bitstream.specs.declared.Refusal.the-variants.{InvalidData}
 use Rattle.bitstream.specs.declared.nal.Size.{Size}
@@ -26,6 +27,11 @@ use Rattle.aps.specs.declared.fields.Stop.{Stop}
 use Rattle.aps.specs.declared.fields.Stop.the-variants as Stop
 use Rattle.aps.specs.declared.fields.SignedField.{SignedField}
 use Rattle.aps.specs.declared.fields.SignedField.the-variants as Signed
+use Rattle.aps.specs.declared.windows.Window.{Window}
+use Rattle.aps.specs.declared.alf_fields.HeldCoefficient.{HeldCoefficient}
+use Rattle.aps.specs.declared.alf_fields.HeldCoefficient.the-variants as Coefficient
+use Rattle.aps.specs.declared.scaling_list_data.HeldSum.{HeldSum}
+use Rattle.aps.specs.declared.scaling_list_data.HeldSum.the-variants as Sum
 use Rattle.aps.specs.declared.alf.VvcAlfLuma.{VvcAlfLuma}
 use Rattle.aps.specs.declared.alf.VvcAlfChroma.{VvcAlfChroma}
 use Rattle.aps.specs.declared.alf.VvcAlfCcFilters.{VvcAlfCcFilters}
@@ -70,6 +76,38 @@ Spans from to n = (m : ℕ) → StopsBy from m → StopsBy to (m + n)
 abbrev pub outcomeSigned : SignedField → Outcome (ℕ × Bool)
 outcomeSigned (Signed.Value m s q) = value (m, s) q
 outcomeSigned (Signed.Refused e) = refused (number e)
+
+-- ---- a window held across fields
+
+-- the window is one of the bytes s at its place
+abbrev pub Known : List ℕ → Window → Type 0
+Known s w = IsWindow s (w .at) (w .left) (w .bits)
+
+-- a value and the bit after it; 1 where that passes the input's end
+abbrev pub endsAt : {A : Type 0} → List ℕ → ℕ → A → Outcome A
+endsAt s q a = cond (ltb (length s * 8) q) (refused 1) (value a q)
+
+abbrev pub outcomeHeld : HeldCoefficient → Outcome (ℕ × Bool)
+outcomeHeld (Coefficient.Value m s w) = value (m, s) (w .at)
+outcomeHeld (Coefficient.Refused e) = refused (number e)
+
+-- the window after a coefficient
+abbrev pub KnownAfter : List ℕ → HeldCoefficient → Type 0
+KnownAfter s (Coefficient.Value m b w) = Known s w
+KnownAfter s (Coefficient.Refused e) = Unit {0}
+
+abbrev pub outcomeSum : HeldSum → Outcome ℤ
+outcomeSum (Sum.Value v w) = value v (w .at)
+outcomeSum (Sum.Refused e) = refused (number e)
+
+-- the window after a sum
+abbrev pub KnownSum : List ℕ → HeldSum → Type 0
+KnownSum s (Sum.Value v w) = Known s w
+KnownSum s (Sum.Refused e) = Unit {0}
+
+-- the first six fields of two bits of a word
+abbrev pub sixOf : ℕ → List ℕ
+sixOf w = w / 2 ^ 62 ∷ w / 2 ^ 60 % 4 ∷ w / 2 ^ 58 % 4 ∷ w / 2 ^ 56 % 4 ∷ w / 2 ^ 54 % 4 ∷ w / 2 ^ 52 % 4 ∷ []
 
 -- what stands before the payload: kind, id and chroma flag
 pub record Headed (s : List ℕ) (kind id : ℕ) (chroma : Bool) : Type 0 where

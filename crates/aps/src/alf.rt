@@ -6,11 +6,13 @@ use crate::fields::Stop;
 use crate::fields::lacks_bits;
 use crate::fields::read_flag;
 use bitstream::Refusal;
+use bitstream::short_codes::short_codes;
 ghost use mathlib.Core.Path.{_≡_};
 ghost use mathlib.Core.Bool.{false};
 ghost use Prim.Native.Nat.{_*_, _≤_};
 ghost use lib.ListN.{length, replicate};
 ghost use Rattle.bitstream.specs.Outcome.{mapOutcome};
+ghost use Rattle.bitstream.specs.Windows.{ShortCodes};
 ghost use Rattle.aps.specs.AlfSyntax.{luma, toLuma, noLuma};
 ghost use Rattle.aps.specs.AlfSyntax.{chroma, toChroma, noChroma, cc, toCc, noCc};
 ghost use Rattle.aps.specs.AlfSyntax.{alf, alfFilters, toAlf};
@@ -134,6 +136,7 @@ pub(crate) fn zero_alf() -> VvcAlfData
 // The luma filters if they are signalled.
 fn read_luma_if(
     bytes: &[u8],
+    codes: &[u16; 512],
     p: usize,
     signal: bool,
     idx: &mut [u8; 25],
@@ -142,12 +145,13 @@ fn read_luma_if(
     clip: &mut [u8; 300],
 ) -> FiltersRead
     requires { ⌜ (length (now bytes) ≤ 65536) × (p ≤ length (now bytes) * 8)
-        × (now idx ≡ replicate 25 0) × (now abs ≡ replicate 300 0) × (now sign ≡ replicate 300 false) × (now clip ≡ replicate 300 0) ⌝ }
+        × (now idx ≡ replicate 25 0) × (now abs ≡ replicate 300 0) × (now sign ≡ replicate 300 false) × (now clip ≡ replicate 300 0)
+        × ShortCodes (now codes) ⌝ }
     ensures { λ r. ⌜ outcomeStop (r .stop) (lumaOf (r .clip) (r .«count_minus1») (now (idx .exit)) (now (abs .exit)) (now (sign .exit)) (now (clip .exit)))
         ≡ (luma signal) .read (now (bytes .entry)) p ⌝ }
 {
     if signal {
-        return read_luma(bytes, p, idx, abs, sign, clip);
+        return read_luma(bytes, codes, p, idx, abs, sign, clip);
     }
     FiltersRead {
         stop: Stop::End(p),
@@ -159,6 +163,7 @@ fn read_luma_if(
 // The chroma filters if they are signalled.
 fn read_chroma_if(
     bytes: &[u8],
+    codes: &[u16; 512],
     from: Stop,
     signal: bool,
     abs: &mut [u32; 48],
@@ -166,14 +171,14 @@ fn read_chroma_if(
     clip: &mut [u8; 48],
 ) -> FiltersRead
     requires { ⌜ (length (now bytes) ≤ 65536) × StopsBy from (length (now bytes) * 8)
-        × (now abs ≡ replicate 48 0) × (now sign ≡ replicate 48 false) × (now clip ≡ replicate 48 0) ⌝ }
+        × (now abs ≡ replicate 48 0) × (now sign ≡ replicate 48 false) × (now clip ≡ replicate 48 0) × ShortCodes (now codes) ⌝ }
     ensures { λ r. ⌜ (outcomeStop (r .stop) (chromaOf (r .clip) (r .«count_minus1») (now (abs .exit)) (now (sign .exit)) (now (clip .exit)))
         ≡ after from λ p. (chroma signal) .read (now (bytes .entry)) p) ⌝ }
 {
     match from {
         Stop::End(p) => {
             if signal {
-                return read_chroma(bytes, p, abs, sign, clip);
+                return read_chroma(bytes, codes, p, abs, sign, clip);
             }
             FiltersRead {
                 stop: Stop::End(p),
@@ -192,19 +197,21 @@ fn read_chroma_if(
 // The filters of Cb or Cr if they are signalled.
 fn read_cc_if(
     bytes: &[u8],
+    codes: &[u16; 512],
     from: Stop,
     signal: bool,
     abs: &mut [u8; 28],
     sign: &mut [bool; 28],
 ) -> CcRead
-    requires { ⌜ (length (now bytes) ≤ 65536) × StopsBy from (length (now bytes) * 8) × (now abs ≡ replicate 28 0) × (now sign ≡ replicate 28 false) ⌝ }
+    requires { ⌜ (length (now bytes) ≤ 65536) × StopsBy from (length (now bytes) * 8)
+        × (now abs ≡ replicate 28 0) × (now sign ≡ replicate 28 false) × ShortCodes (now codes) ⌝ }
     ensures { λ r. ⌜ (outcomeStop (r .stop) (ccOf (r .«count_minus1») (now (abs .exit)) (now (sign .exit)))
         ≡ after from λ p. (cc signal) .read (now (bytes .entry)) p) ⌝ }
 {
     match from {
         Stop::End(p) => {
             if signal {
-                return read_cc(bytes, p, abs, sign);
+                return read_cc(bytes, codes, p, abs, sign);
             }
             CcRead {
                 stop: Stop::End(p),
@@ -249,10 +256,14 @@ fn read_alf_filters(
         (now («cb_abs» .exit)) (now («cb_sign» .exit)) (now («cr_abs» .exit)) (now («cr_sign» .exit)))
         ≡ mapOutcome (λ x. toAlf (luma, (chroma, (cb, (cr, x))))) ((alfFilters luma chroma cb cr) .read (now (bytes .entry)) p) ⌝ }
 {
-    let l = read_luma_if(bytes, p, luma, luma_idx, luma_abs, luma_sign, luma_clip);
+    let codes = short_codes();
+    let l = read_luma_if(
+        bytes, &codes, p, luma, luma_idx, luma_abs, luma_sign, luma_clip,
+    );
     let luma_stop = l.stop;
     let c = read_chroma_if(
         bytes,
+        &codes,
         luma_stop,
         chroma,
         chroma_abs,
@@ -260,9 +271,9 @@ fn read_alf_filters(
         chroma_clip,
     );
     let chroma_stop = c.stop;
-    let b = read_cc_if(bytes, chroma_stop, cb, cb_abs, cb_sign);
+    let b = read_cc_if(bytes, &codes, chroma_stop, cb, cb_abs, cb_sign);
     let cb_stop = b.stop;
-    let r = read_cc_if(bytes, cb_stop, cr, cr_abs, cr_sign);
+    let r = read_cc_if(bytes, &codes, cb_stop, cr, cr_abs, cr_sign);
     let stop = r.stop;
     AlfRead {
         stop,

@@ -6,13 +6,14 @@ use crate::alf_fields::read_clips;
 use crate::alf_fields::read_coefficients;
 use crate::alf_fields::read_filters_head;
 use crate::fields::Stop;
-use crate::fields::lacks_bits;
-use crate::fields::read_u;
+use crate::windows::held_u;
+use crate::windows::window_at;
 use bitstream::Refusal;
 ghost use mathlib.Core.Path.{_≡_};
 ghost use mathlib.Core.Bool.{true, false};
 ghost use Prim.Native.Nat.{_*_, _≤_};
 ghost use lib.ListN.{length, replicate};
+ghost use Rattle.bitstream.specs.Windows.{ShortCodes};
 ghost use Rattle.aps.specs.AlfSyntax.{luma, lumaIndexes};
 ghost use Rattle.aps.specs.Inner.{outcomeStop, lumaOf};
 
@@ -25,26 +26,28 @@ fn read_indexes(bytes: &[u8], p: usize, count_minus1: u32, idx: &mut [u8; 25]) -
         return Stop::End(p);
     }
     let bits = ceil_log2(count_minus1 + 1);
-    let mut at = p;
+    let mut held = window_at(bytes, p);
     let mut i: usize = 0;
     while i < 25 {
-        if lacks_bits(bytes, at, bits as usize) {
+        let field = held_u(bytes, held, bits, 5);
+        held = field.next;
+        if bytes.len() * 8 < held.at {
             return Stop::Refused(Refusal::UnexpectedEnd);
         }
-        let x = read_u(bytes, at, bits);
+        let x = field.value;
         if x > count_minus1 {
             return Stop::Refused(Refusal::InvalidData);
         }
         idx[i] = x as u8;
-        at += bits as usize;
         i += 1;
     }
-    Stop::End(at)
+    Stop::End(held.at)
 }
 
 // The luma filters.
 pub(crate) fn read_luma(
     bytes: &[u8],
+    codes: &[u16; 512],
     p: usize,
     idx: &mut [u8; 25],
     abs: &mut [u32; 300],
@@ -52,11 +55,12 @@ pub(crate) fn read_luma(
     clips: &mut [u8; 300],
 ) -> FiltersRead
     requires { ⌜ (length (now bytes) ≤ 65536) × (p ≤ length (now bytes) * 8)
-        × (now idx ≡ replicate 25 0) × (now abs ≡ replicate 300 0) × (now sign ≡ replicate 300 false) × (now clips ≡ replicate 300 0) ⌝ }
+        × (now idx ≡ replicate 25 0) × (now abs ≡ replicate 300 0) × (now sign ≡ replicate 300 false) × (now clips ≡ replicate 300 0)
+        × ShortCodes (now codes) ⌝ }
     ensures { λ r. ⌜ outcomeStop (r .stop) (lumaOf (r .clip) (r .«count_minus1») (now (idx .exit)) (now (abs .exit)) (now (sign .exit)) (now (clips .exit)))
         ≡ (luma true) .read (now (bytes .entry)) p ⌝ }
 {
-    let head = read_filters_head(bytes, p, 24);
+    let head = read_filters_head(bytes, codes, p, 24);
     let clip = head.clip;
     let count_minus1 = head.count_minus1;
     let at = head.stop;
@@ -66,7 +70,7 @@ pub(crate) fn read_luma(
     };
     let n = 12 * (count_minus1 as usize + 1);
     let indexes = read_indexes(bytes, q, count_minus1, idx);
-    let coefficients = read_coefficients(bytes, indexes, n, abs, sign);
+    let coefficients = read_coefficients(bytes, codes, indexes, n, abs, sign);
     let stop = read_clips(bytes, coefficients, clips_sent(clip, n), clips);
     FiltersRead {
         stop,
