@@ -1,63 +1,108 @@
+-- `alf_answer`: the payload, the id, then how the set ends.
 use borrow.Author.Needs.{needs}
+use mathlib.Core.Path.{_≡_}
+use mathlib.Core.List.{List}
+use Prim.Native.Nat.{ℕ}
+use denote.Ref.{now}
+use native.Mathlib.Omega.{arith}
+use Rattle.aps.specs.AlfSyntax.{alf}
+use Rattle.aps.specs.Inner.{outcomeStop, alfOf, withExtension}
+use Rattle.aps.specs.ApsSyntax.{zeroLmcs, zeroScaling}
+use Rattle.aps.specs.declared.alf.VvcAlfData.{VvcAlfData}
+use Rattle.aps.specs.declared.fields.Stop.{Stop}
+use Rattle.aps.specs.declared.aps.ApsKind.{ApsKind}
 use Rattle.aps.proofs.aps.alf_answer.Statement.{statement}
 use Rattle.aps.proofs.aps.alf_answer.Tie as tie
-use Rattle.aps.proofs.aps.alf_answer.Reads as reads
-use Rattle.aps.proofs.aps.alf_answer.Lts as lts
-use Rattle.aps.proofs.alf.parse_alf_data.Reads as parse-alf-data-reads
-use Rattle.aps.proofs.aps.read_ending.Reads as read-ending-reads
-use Rattle.aps.proofs.aps.refuse_alf.Reads as refuse-alf-reads
+use Rattle.aps.proofs.CodecLaws.{inside}
+use Rattle.aps.proofs.AlfLaws.{alf-law}
+use Rattle.aps.proofs.FieldLaws.{lacks-none}
+use Rattle.aps.proofs.Answers.{answered, refused-alf}
+use Rattle.aps.proofs.RbspSteps.{setOf, alf-refused, alf-id, alf-set, set-ended, set-refused}
 
--- src/aps.rt:326:9
+-- what the payload gave
+module _ (c : tie.After-parse-alf-data) where
+  abbrev start : tie.Start
+  start = c .before .before .before .before .before .before .before .before .before .before .before .before .before
+
+  abbrev bytes : List ℕ
+  bytes = now (start .args .bytes)
+
+  abbrev filters : VvcAlfData
+  filters =
+      let l = c .parse-alf-data .last .1 .1 .1 in
+      alfOf (c .parse-alf-data .result) (l .0) (l .1 .0) (l .1 .1 .0) (l .1 .1 .1 .0) (l .1 .1 .1 .1 .0) (l .1 .1 .1 .1 .1 .0) (l .1 .1 .1 .1 .1 .1 .0) (l .1 .1 .1 .1 .1 .1 .1 .0) (l .1 .1 .1 .1 .1 .1 .1 .1 .0) (l .1 .1 .1 .1 .1 .1 .1 .1 .1 .0) (l .1 .1 .1 .1 .1 .1 .1 .1 .1 .1 .0)
+
+  payload : {stop : Stop} → c .parse-alf-data .result .stop ≡ stop → (alf (start .args .chroma)) .read bytes 9 ≡ outcomeStop stop filters
+  payload e = answered (λ stop. outcomeStop stop filters) e (c .parse-alf-data .ensures)
+
 parse-alf-data-requires : tie.Need-parse-alf-data-requires
-parse-alf-data-requires c κs = ?
+parse-alf-data-requires c κs =
+    let b = c .before .before .before .before .before .before .before .before .before .before .before .before in
+    let (l, h, i1, a1, s1, c1, a2, s2, c2, a3, s3, a4, s4) = b .pre in
+    (l, lacks-none (now (b .args .bytes)) 0 9 (omega arith) (h .there), i1, a1, s1, c1, a2, s2, c2, a3, s3, a4, s4)
 
--- src/aps.rt:344:19
 enum-known-stop : tie.Need-enum-known-stop
 enum-known-stop c = search needs
 
--- src/aps.rt:346:17
 refuse-alf-requires : tie.Need-refuse-alf-requires
 refuse-alf-requires c κs = search needs
 
--- src/aps.rt:346:17
 returns : tie.Need-returns
-returns c = ?
+returns c =
+    let k = c .before .before .before .before .before .before .before .before .before .before .before .before .before .before .before .before in
+    let b = start k in
+    refused-alf (bytes k) _
+    (alf-id (bytes k) (b .args .id) (b .args .chroma) (b .pre .1) _ _ (payload k (c .before .before .before .before .before .before .before .before .before .before .before .before .before .before .stop .given .1)) (c .before .before .before .before .before .before .before .before .before .before .before .before .if1 .taken))
+    (c .refuse-alf .result) (c .refuse-alf .ensures)
 
--- src/aps.rt:361:17
 read-ending-requires : tie.Need-read-ending-requires
-read-ending-requires c κs = ?
+read-ending-requires c κs =
+    let k = c .before .before .before .before in
+    let b = start k in
+    (b .pre .0, inside (alf-law (b .args .chroma)) _ _ _ _ (payload k (c .before .before .stop .given .1)) (lacks-none (bytes k) 0 9 (omega arith) (b .pre .1 .there)))
 
--- src/aps.rt:364:34
 enum-known-end : tie.Need-enum-known-end
 enum-known-end c = search needs
 
--- src/aps.rt:371:37
 enum-known-end-2 : tie.Need-enum-known-end-2
 enum-known-end-2 c = search needs
 
--- src/aps.rt:371:45
 refuse-alf-requires-2 : tie.Need-refuse-alf-requires-2
 refuse-alf-requires-2 c κs = search needs
 
--- src/aps.rt:387:23
 enum-known-stop-2 : tie.Need-enum-known-stop-2
 enum-known-stop-2 c = search needs
 
--- src/aps.rt:387:33
 refuse-alf-requires-3 : tie.Need-refuse-alf-requires-3
 refuse-alf-requires-3 c κs = search needs
 
--- src/aps.rt:300:1
 returns-2 : tie.Need-returns-2
-returns-2 c = ?
+unfolding withExtension
+returns-2 c =
+    let k = c .before .before .before .before .before .before .before .before in
+    let b = start k in
+    let r = c .before .before .before .read-ending in
+    λ a f. rw f
+    (set-ended (setOf ApsKind.Alf (b .args .id) (b .args .chroma) (filters k) zeroLmcs zeroScaling) (r .result .extension) (r .result .outcome) (r .ensures _)
+    (alf-set (bytes k) (b .args .id) (b .args .chroma) (b .pre .1) _ _ (payload k (c .before .before .before .before .before .before .stop .given .1)) (c .before .before .before .before .if1 .left)) _ (c .before .end .given .1))
 
--- src/aps.rt:300:1
 returns-3 : tie.Need-returns-3
-returns-3 c = ?
+returns-3 c =
+    let k = c .before .before .before .before .before .before .before .before .before .before .before .before .before .before .before .before .before .before .before .before in
+    let b = start k in
+    let r = c .before .before .before .before .before .before .before .before .before .before .before .before .before .before .before .read-ending in
+    refused-alf (bytes k) _
+    (set-refused _ (r .result .extension) (r .result .outcome) (r .ensures _)
+    (alf-set (bytes k) (b .args .id) (b .args .chroma) (b .pre .1) _ _ (payload k (c .before .before .before .before .before .before .before .before .before .before .before .before .before .before .before .before .before .before .stop .given .1)) (c .before .before .before .before .before .before .before .before .before .before .before .before .before .before .before .before .if1 .left)) _ (c .before .before .before .before .before .before .before .before .before .before .before .before .before .end2 .given .1))
+    (c .refuse-alf2 .result) (c .refuse-alf2 .ensures)
 
--- src/aps.rt:300:1
 returns-4 : tie.Need-returns-4
-returns-4 c = ?
+returns-4 c =
+    let k = c .before .before .before .before .before .before .before .before .before .before .before .before .before .before .before in
+    let b = start k in
+    refused-alf (bytes k) _
+    (alf-refused (bytes k) (b .args .id) (b .args .chroma) (b .pre .1) _ (payload k (c .before .before .before .before .before .before .before .before .before .before .before .before .before .stop2 .given .1)))
+    (c .refuse-alf3 .result) (c .refuse-alf3 .ensures)
 
 pub alf-answer-spec : {M : Type 1} → statement M
 alf-answer-spec =
