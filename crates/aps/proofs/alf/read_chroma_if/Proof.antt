@@ -1,60 +1,35 @@
--- `read_chroma_if`: a refusal stays, and the record is inferred where the flag is not set.
 use borrow.Author.Needs.{needs}
-use mathlib.Core.Path.{refl, sym, _∙_}
-use native.Mathlib.Omega.{arith}
-use denote.Ref.{now}
-use lib.Dec.{eqb}
-use lib.ListN.{length}
-use Rattle.aps.specs.AlfSyntax.{chroma, chromaSyntax, toChroma, fromChroma, noChroma}
-use Rattle.aps.proofs.AlfSteps.{via-absent}
-use Rattle.aps.proofs.StopLaws.{after-end}
 use Rattle.aps.proofs.alf.read_chroma_if.Statement.{statement}
 use Rattle.aps.proofs.alf.read_chroma_if.Tie as tie
+use Rattle.aps.proofs.alf.read_chroma_if.Reads as reads
+use Rattle.aps.proofs.alf.read_chroma_if.Lts as lts
+use Rattle.aps.proofs.alf_chroma.read_chroma.Reads as read-chroma-reads
 
+-- src/alf.rt:174:19
 enum-known-from : tie.Need-enum-known-from
 enum-known-from c = search needs
 
+-- src/alf.rt:176:17
 read-chroma-requires : tie.Need-read-chroma-requires
-read-chroma-requires c κs =
-    let f = c .before .before in
-    let b = f .before .before .before in
-    (omega arith, rw (f .from .given .1) at (b .pre .1))
+read-chroma-requires c κs = ?
 
+-- src/alf.rt:176:17
 returns : tie.Need-returns
-returns c =
-    let d = c .read-chroma in
-    let f = c .before .before .before in
-    rw (c .before .if1 .taken) (d .ensures) ∙ sym (after-end _ (f .from .given .1))
+returns c = ?
 
-no-chroma-requires : tie.Need-no-chroma-requires
-no-chroma-requires c κs = search needs
-
+-- src/alf.rt:184:23
 enum-known-from-2 : tie.Need-enum-known-from-2
 enum-known-from-2 c = search needs
 
-no-chroma-requires-2 : tie.Need-no-chroma-requires-2
-no-chroma-requires-2 c κs = search needs
-
+-- src/alf.rt:160:1
 returns-2 : tie.Need-returns-2
-unfolding chroma
-returns-2 c =
-    let f = c .before .before .before in
-    let a = f .before .before .before .args in
-    let p = f .from .given .0 .0 in
-    rw (c .before .if1 .left, via-absent toChroma fromChroma (λ d. eqb (length (d .«coeff_abs»)) (length (d .«coeff_sign»))) noChroma chromaSyntax (now (a .bytes)) p, c .no-chroma .ensures) refl ∙ sym (after-end _ (f .from .given .1))
+returns-2 c = ?
 
+-- src/alf.rt:160:1
 returns-3 : tie.Need-returns-3
-returns-3 c = rw (c .before .before .from2 .given .1)
+returns-3 c = ?
 
 pub read-chroma-if-spec : {M : Type 1} → statement M
 read-chroma-if-spec =
     tie.close
-    (tie.spec
-    enum-known-from
-    read-chroma-requires
-    returns
-    no-chroma-requires
-    enum-known-from-2
-    no-chroma-requires-2
-    returns-2
-    returns-3)
+    (tie.spec enum-known-from read-chroma-requires returns enum-known-from-2 returns-2 returns-3)

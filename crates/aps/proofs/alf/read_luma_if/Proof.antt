@@ -1,28 +1,21 @@
--- `read_luma_if`: the record that is inferred where the flag is not set.
 use borrow.Author.Needs.{needs}
-use mathlib.Core.Bool.{true}
-use denote.Ref.{now}
-use Rattle.aps.specs.AlfSyntax.{luma, lumaSyntax, toLuma, fromLuma, noLuma}
-use Rattle.aps.proofs.AlfSteps.{via-absent}
 use Rattle.aps.proofs.alf.read_luma_if.Statement.{statement}
 use Rattle.aps.proofs.alf.read_luma_if.Tie as tie
+use Rattle.aps.proofs.alf.read_luma_if.Reads as reads
+use Rattle.aps.proofs.alf.read_luma_if.Lts as lts
+use Rattle.aps.proofs.alf_luma.read_luma.Reads as read-luma-reads
 
+-- src/alf.rt:150:9
 read-luma-requires : tie.Need-read-luma-requires
 read-luma-requires c κs = search needs
 
+-- src/alf.rt:150:9
 returns : tie.Need-returns
-returns c =
-    let d = c .read-luma in
-    rw (c .before .if1 .taken) (d .ensures)
+returns c = ?
 
-no-luma-requires : tie.Need-no-luma-requires
-no-luma-requires c κs = search needs
-
+-- src/alf.rt:135:1
 returns-2 : tie.Need-returns-2
-unfolding luma
-returns-2 c =
-    let a = c .before .before .before .args in
-    rw (c .before .if1 .left, via-absent toLuma fromLuma (λ d. true) noLuma lumaSyntax (now (a .bytes)) (a .p), c .no-luma .ensures)
+returns-2 c = ?
 
 pub read-luma-if-spec : {M : Type 1} → statement M
-read-luma-if-spec = tie.close (tie.spec read-luma-requires returns no-luma-requires returns-2)
+read-luma-if-spec = tie.close (tie.spec read-luma-requires returns returns-2)
