@@ -7,7 +7,7 @@ use native.Mathlib.Nat.{mul-comm, div-lt-iff-lt-mul, le-div-iff-mul-le}
 use native.Mathlib.Omega.{arith}
 use borrow.Author.Tests.{ltb-true, ltb-false, leb-true, lt-ltb, le-ltb, le-leb, lt-leb}
 use lib.Dec.{leb, ltb, eqb}
-use lib.ListN.{length, replicate}
+use lib.ListN.{length, replicate, length-replicate}
 use Rattle.bitstream.specs.Outcome.{Outcome, value, refused, mapOutcome, _then_}
 use Rattle.bitstream.specs.Bits.{fieldAt}
 use Rattle.bitstream.specs.Fields.{lacks}
@@ -75,6 +75,13 @@ reading-from k N v s p a e = rw e (reading-start k N v s p)
 pub reading2-from : {A B : Type 0} (k : ℕ → Codec (A × B)) (N : ℕ) (v : A) (w : B) (s : List ℕ) (p : ℕ) (a : List A) (b : List B)
     → a ≡ replicate N v → b ≡ replicate N w → Reading2 k N v w s p 0 a b p
 reading2-from k N v w s p a b e f = rw (e, f) (reading2-start k N v w s p)
+
+-- arrays of what is inferred, and how long they are
+pub filled-length : {A : Type 0} (n : ℕ) (v : A) {a : List A} → a ≡ replicate n v → length a ≡ n
+filled-length n v e = ap length e ∙ length-replicate n v
+
+pub filled-as : {A : Type 0} (v : A) {a : List A} {m n : ℕ} → m ≡ n → a ≡ replicate n v → a ≡ replicate m v
+filled-as v h e = e ∙ ap (λ (n : ℕ). replicate n v) (sym h)
 
 -- an index is sent where there is more than one filter
 abbrev pub index : ℕ → Codec ℕ
