@@ -15,12 +15,14 @@ use Rattle.bitstream.proofs.CodeLaws.{value-refused}
 use Rattle.aps.specs.Codec.{Codec, u, ue, _▷_, via, judged, Inferred, when, each}
 use Rattle.aps.specs.Elements.{flag, ueTo, noFlag, noNumber, noSigned, apart}
 use Rattle.aps.specs.AlfSyntax.{ceilLog2, coefficient, lumaCoefficients, lumaClips}
-use Rattle.aps.specs.AlfSyntax.{ccSyntax, ccCoefficients, toCc, alf, alfSyntax, alfFilters, toAlf}
+use Rattle.aps.specs.AlfSyntax.{lumaSyntax, toLuma, fromLuma, noLuma, chromaSyntax, toChroma, fromChroma, noChroma}
+use Rattle.aps.specs.AlfSyntax.{ccSyntax, ccCoefficients, toCc, fromCc, noCc, alf, alfSyntax, alfFilters, toAlf}
 use Rattle.aps.specs.declared.alf.VvcAlfLuma.{VvcAlfLuma}
 use Rattle.aps.specs.declared.alf.VvcAlfChroma.{VvcAlfChroma}
 use Rattle.aps.specs.declared.alf.VvcAlfCcFilters.{VvcAlfCcFilters}
 use Rattle.aps.specs.declared.alf.VvcAlfData.{VvcAlfData}
 use Rattle.aps.specs.AlfSyntax as Alf
+use Rattle.aps.specs.Inner.{lumaOf, chromaOf, ccOf}
 use Rattle.aps.proofs.Lawful.{Lawful, total}
 use Rattle.aps.proofs.FieldLaws.{u-law}
 use Rattle.aps.proofs.CodecLaws.{inside, ▷-halves, ▷-law, judged-law, when-law}
@@ -170,10 +172,26 @@ module _ (s : List ℕ) (p : ℕ) where
       first (refused e) = refl
 
 -- a part that is not signalled
-pub via-absent : {A B : Type 0} (to : A → B) (from : B → A) (test : B → Bool) (d : Inferred A) (c : Codec A) (s : List ℕ) (p : ℕ)
+via-absent : {A B : Type 0} (to : A → B) (from : B → A) (test : B → Bool) (d : Inferred A) (c : Codec A) (s : List ℕ) (p : ℕ)
     → (via to from test (when false d c)) .read s p ≡ value (to (d .default)) p
 unfolding via when
 via-absent to from test d c s p = refl
+
+module _ (s : List ℕ) (p : ℕ) where
+  pub luma-absent : (idx abs : List ℕ) (sign : List Bool) (clips : List ℕ) → idx ≡ replicate 25 0 → abs ≡ replicate 300 0 → sign ≡ replicate 300 false → clips ≡ replicate 300 0
+      → value (lumaOf false 0 idx abs sign clips) p ≡ (Alf.luma false) .read s p
+  unfolding Alf.luma
+  luma-absent idx abs sign clips e f g h = rw (e, f, g, h) (sym (via-absent toLuma fromLuma (λ d. true) noLuma lumaSyntax s p))
+
+  pub chroma-absent : (abs : List ℕ) (sign : List Bool) (clips : List ℕ) → abs ≡ replicate 48 0 → sign ≡ replicate 48 false → clips ≡ replicate 48 0
+      → value (chromaOf false 0 abs sign clips) p ≡ (Alf.chroma false) .read s p
+  unfolding Alf.chroma toChroma
+  chroma-absent abs sign clips e f g =
+      rw (e, f, g) (sym (via-absent toChroma fromChroma (λ d. eqb (length (d .«coeff_abs»)) (length (d .«coeff_sign»))) noChroma chromaSyntax s p))
+
+  pub cc-absent : (abs : List ℕ) (sign : List Bool) → abs ≡ replicate 28 0 → sign ≡ replicate 28 false → value (ccOf 0 abs sign) p ≡ (Alf.cc false) .read s p
+  unfolding Alf.cc
+  cc-absent abs sign e f = rw (e, f) (sym (via-absent toCc fromCc (λ d. true) noCc ccSyntax s p))
 
 -- bits are lacking for the four flags, or for the first alone
 module _ (s : List ℕ) (p : ℕ) where

@@ -1,33 +1,39 @@
+-- `read_chroma_if`: a refusal stays, and the arrays stay as they are inferred where the flag is not set.
 use borrow.Author.Needs.{needs}
+use mathlib.Core.Path.{sym, _∙_}
+use denote.Ref.{now}
+use Rattle.aps.proofs.AlfSteps.{chroma-absent}
+use Rattle.aps.proofs.StopLaws.{after-end}
 use Rattle.aps.proofs.alf.read_chroma_if.Statement.{statement}
 use Rattle.aps.proofs.alf.read_chroma_if.Tie as tie
-use Rattle.aps.proofs.alf.read_chroma_if.Reads as reads
-use Rattle.aps.proofs.alf.read_chroma_if.Lts as lts
-use Rattle.aps.proofs.alf_chroma.read_chroma.Reads as read-chroma-reads
 
--- src/alf.rt:174:19
 enum-known-from : tie.Need-enum-known-from
 enum-known-from c = search needs
 
--- src/alf.rt:176:17
 read-chroma-requires : tie.Need-read-chroma-requires
-read-chroma-requires c κs = ?
+read-chroma-requires c κs =
+    let f = c .before .before .before .before .before in
+    let b = f .before .before .before in
+    (b .pre .0, rw (f .from .given .1) at (b .pre .1), b .pre .2, b .pre .3, b .pre .4)
 
--- src/alf.rt:176:17
 returns : tie.Need-returns
-returns c = ?
+returns c =
+    let d = c .read-chroma in
+    let i = c .before .before .before .before in
+    rw (i .if1 .taken) (d .ensures) ∙ sym (after-end _ (i .before .before .from .given .1))
 
--- src/alf.rt:184:23
 enum-known-from-2 : tie.Need-enum-known-from-2
 enum-known-from-2 c = search needs
 
--- src/alf.rt:160:1
 returns-2 : tie.Need-returns-2
-returns-2 c = ?
+returns-2 c =
+    let f = c .before .before in
+    let b = f .before .before .before in
+    let a = b .args in
+    rw (c .if1 .left) (chroma-absent (now (a .bytes)) (f .from .given .0 .0) (a .abs .now) (a .sign .now) (a .clip .now) (b .pre .2) (b .pre .3) (b .pre .4)) ∙ sym (after-end _ (f .from .given .1))
 
--- src/alf.rt:160:1
 returns-3 : tie.Need-returns-3
-returns-3 c = ?
+returns-3 c = rw (c .before .from2 .given .1)
 
 pub read-chroma-if-spec : {M : Type 1} → statement M
 read-chroma-if-spec =
