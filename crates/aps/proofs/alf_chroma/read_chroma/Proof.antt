@@ -30,8 +30,7 @@ returns c =
     let k = c .before .before .read-filters-head in
     let a = c .before .before .before .before .args in
     let e = answered (λ t. outcomeStop {A = Bool × ℕ} t (k .result .clip, k .result .«count_minus1»)) (c .enum-told .given .1) (k .ensures) in
-    rw (c .enum-told .given .1)
-    (sym (rw (headed-read toChroma fromChroma (λ d. eqb (length (d .«coeff_abs»)) (length (d .«coeff_sign»))) noChroma 7 alternatives (now (a .bytes)) (a .p), e)))
+    rw (c .enum-told .given .1, headed-read toChroma fromChroma (λ d. eqb (length (d .«coeff_abs»)) (length (d .«coeff_sign»))) noChroma 7 alternatives (now (a .bytes)) (a .p), e)
 
 -- what the head gives
 announced : (c : tie.After-known-told) → (head 7) .read (now (c .before .before .before .before .before .args .bytes)) (c .before .before .before .before .before .args .p)

@@ -35,7 +35,7 @@ returns c =
     let k = c .before .before .read-filters-head in
     let a = c .before .before .before .before .args in
     let e = answered (λ t. outcomeStop {A = Bool × ℕ} t (k .result .clip, k .result .«count_minus1»)) (c .enum-told .given .1) (k .ensures) in
-    rw (c .enum-told .given .1) (sym (rw (headed-read toLuma fromLuma (λ d. true) noLuma 24 lumaFilters (now (a .bytes)) (a .p), e)))
+    rw (c .enum-told .given .1, headed-read toLuma fromLuma (λ d. true) noLuma 24 lumaFilters (now (a .bytes)) (a .p), e)
 
 cast-n : tie.Need-cast-n
 cast-n c = search needs
