@@ -19,6 +19,7 @@ pub mod Gives
 pub mod RowLaws
 pub mod SignedLaws
 pub mod FieldSteps
+pub mod WindowSteps
 pub mod Steps
 pub mod StopLaws
 pub mod AlfSteps

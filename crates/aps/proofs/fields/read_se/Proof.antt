@@ -1,26 +1,54 @@
--- `read_se`: inside the limits the call reads what the syntax reads where no bit is lacking.
 use borrow.Author.Needs.{needs}
-use mathlib.Core.Path.{sym, _∙_}
-use denote.Ref.{now}
-use native.Mathlib.Omega.{arith}
-use Rattle.aps.proofs.FieldSteps.{se-here, se-lacking}
 use Rattle.aps.proofs.fields.read_se.Statement.{statement}
 use Rattle.aps.proofs.fields.read_se.Tie as tie
+use Rattle.aps.proofs.fields.read_se.Reads as reads
+use Rattle.aps.proofs.fields.read_se.Lts as lts
+use Rattle.aps.proofs.fields.long_se.Reads as long-se-reads
+use Rattle.aps.proofs.fields.se_of.Reads as se-of-reads
+use Rattle.bitstream.proofs.short_codes.code_by_table.Reads as code-by-table-reads
+use Rattle.bitstream.proofs.window.window_alone.Reads as window-alone-reads
 
-se-requires : tie.Need-se-requires
-se-requires c κs = search needs
+-- src/fields.rt:125:37
+window-alone-requires : tie.Need-window-alone-requires
+window-alone-requires c κs = search needs
 
+-- src/fields.rt:125:9
+code-by-table-requires : tie.Need-code-by-table-requires
+code-by-table-requires c κs = search needs
+
+-- src/fields.rt:128:20
+add-next : tie.Need-add-next
+add-next c = ?
+
+-- src/fields.rt:129:20
+mul-if2 : tie.Need-mul-if2
+mul-if2 c = search needs
+
+-- src/fields.rt:130:34
+se-of-requires : tie.Need-se-of-requires
+se-of-requires c κs = ?
+
+-- src/fields.rt:130:13
 returns : tie.Need-returns
-returns c =
-    let k = c .before .se in
-    let b = c .before .before .before in
-    sym (se-lacking (now (b .args .bytes)) (b .args .p) (b .pre .0) (omega arith) (sym (k .ensures .1) ∙ c .if1 .taken))
+returns c = ?
 
+-- src/fields.rt:133:5
+long-se-requires : tie.Need-long-se-requires
+long-se-requires c κs = search needs
+
+-- src/fields.rt:121:1
 returns-2 : tie.Need-returns-2
-returns-2 c =
-    let k = c .before .se in
-    let b = c .before .before .before in
-    k .ensures .0 ∙ sym (se-here (now (b .args .bytes)) (b .args .p) (b .pre .0) (omega arith) (sym (k .ensures .1) ∙ c .if1 .left))
+returns-2 c = search needs
 
 pub read-se-spec : {M : Type 1} → statement M
-read-se-spec = tie.close (tie.spec se-requires returns returns-2)
+read-se-spec =
+    tie.close
+    (tie.spec
+    window-alone-requires
+    code-by-table-requires
+    add-next
+    mul-if2
+    se-of-requires
+    returns
+    long-se-requires
+    returns-2)
