@@ -270,9 +270,10 @@ fn refuse_alf(
 ) -> AlfAnswer
     ensures answer { λ r. ⌜ (r .outcome ≡ ApsOutcome.Refused why) × (r .id ≡ 0) × (r .chroma ≡ false) × (r .extension ≡ false)
         × (r .read ≡ noAlf why) ⌝ }
-    ensures arrays { λ r. ⌜ (now («luma_idx» .exit) ≡ replicate 25 0) × (now («luma_abs» .exit) ≡ replicate 300 0) × (now («luma_sign» .exit) ≡ replicate 300 false)
-        × (now («luma_clip» .exit) ≡ replicate 300 0)
-        × (now («chroma_abs» .exit) ≡ replicate 48 0) × (now («chroma_sign» .exit) ≡ replicate 48 false) × (now («chroma_clip» .exit) ≡ replicate 48 0)
+    ensures arrays { λ r. ⌜ (now («luma_idx» .exit) ≡ replicate 25 0) × (now («luma_abs» .exit) ≡ replicate 300 0)
+        × (now («luma_sign» .exit) ≡ replicate 300 false) × (now («luma_clip» .exit) ≡ replicate 300 0)
+        × (now («chroma_abs» .exit) ≡ replicate 48 0) × (now («chroma_sign» .exit) ≡ replicate 48 false)
+        × (now («chroma_clip» .exit) ≡ replicate 48 0)
         × (now («cb_abs» .exit) ≡ replicate 28 0) × (now («cb_sign» .exit) ≡ replicate 28 false)
         × (now («cr_abs» .exit) ≡ replicate 28 0) × (now («cr_sign» .exit) ≡ replicate 28 false) ⌝ }
 {
@@ -319,7 +320,8 @@ fn alf_answer(
         × (now «chroma_abs» ≡ replicate 48 0) × (now «chroma_sign» ≡ replicate 48 false) × (now «chroma_clip» ≡ replicate 48 0)
         × (now «cb_abs» ≡ replicate 28 0) × (now «cb_sign» ≡ replicate 28 false)
         × (now «cr_abs» ≡ replicate 28 0) × (now «cr_sign» ≡ replicate 28 false) ⌝ }
-    ensures { λ r. ⌜ AnswersAlf r (now (bytes .entry)) (now («luma_idx» .exit)) (now («luma_abs» .exit)) (now («luma_sign» .exit)) (now («luma_clip» .exit))
+    ensures { λ r. ⌜ AnswersAlf r (now (bytes .entry))
+        (now («luma_idx» .exit)) (now («luma_abs» .exit)) (now («luma_sign» .exit)) (now («luma_clip» .exit))
         (now («chroma_abs» .exit)) (now («chroma_sign» .exit)) (now («chroma_clip» .exit))
         (now («cb_abs» .exit)) (now («cb_sign» .exit)) (now («cr_abs» .exit)) (now («cr_sign» .exit)) ⌝ }
 {
@@ -531,7 +533,8 @@ fn scaling_answer(
     requires { ⌜ (length (now bytes) ≤ 65536) × Headed (now bytes) 2 id chroma
         × (now copy ≡ replicate 28 false) × (now pred ≡ replicate 28 false) × (now delta ≡ replicate 28 0)
         × (now dc ≡ replicate 14 (pos 0)) × (now list ≡ replicate 1792 (pos 0)) ⌝ }
-    ensures { λ r. ⌜ AnswersScaling r (now (bytes .entry)) (now (copy .exit)) (now (pred .exit)) (now (delta .exit)) (now (dc .exit)) (now (list .exit)) ⌝ }
+    ensures { λ r. ⌜ AnswersScaling r (now (bytes .entry))
+        (now (copy .exit)) (now (pred .exit)) (now (delta .exit)) (now (dc .exit)) (now (list .exit)) ⌝ }
 {
     let stop = parse_scaling_list_data(bytes, 9, chroma, copy, pred, delta, dc, list);
     match stop {
