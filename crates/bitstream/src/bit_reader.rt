@@ -194,16 +194,16 @@ fn ue_of(bytes: &[u8], p: usize, code: Code) -> ReadU
     ensures field { λ r. ⌜ outcomeU (r .field) ≡ ueAt (now (bytes .entry)) p ⌝ }
     ensures lacking { λ r. ⌜ r .lacking ≡ ueLacking (now (bytes .entry)) p ⌝ }
 {
-    let n = code.bits;
-    if n == 0 {
+    let size = code.bits;
+    if size == 0 {
         return long_ue(bytes, p);
     }
     let after = BitReader {
-        bit_pos: p + n as usize,
+        bit_pos: p + size as usize,
     };
     ReadU {
         field: FieldU::Value(code.value, after),
-        lacking: lacks_bits(bytes, p, n as u32),
+        lacking: lacks_bits(bytes, p, size as u32),
     }
 }
 
