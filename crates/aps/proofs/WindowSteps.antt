@@ -9,7 +9,7 @@ use native.Mathlib.Omega.{arith}
 use borrow.Author.Tests.{lt-ltb, le-ltb}
 use lib.Dec.{ltb, eqb}
 use lib.ListN.{length}
-use Rattle.bitstream.specs.Outcome.{value, refused, _then_}
+use Rattle.bitstream.specs.Outcome.{Outcome, value, refused, _then_}
 use Rattle.bitstream.specs.Bits.{fieldAt}
 use Rattle.bitstream.specs.Fields.{lacks}
 use Rattle.bitstream.specs.Windows.{IsWindow, codeIn}
@@ -36,6 +36,14 @@ module _ {s : List ℕ} {p left w : ℕ} (h : IsWindow s p left w) where
   pub held-u : (n : ℕ) → 0 < n → n ≤ left → endsAt s (p + n) (w / 2 ^ (64 - n)) ≡ (u n) .read s p
   unfolding lacks
   held-u n a l = rw (u-read n s p, lt-ltb 0 n a, window-top h n l)
+
+-- a field that passes the input's end, and one that does not
+module _ {A : Type 0} (s : List ℕ) (q : ℕ) (a : A) {o : Outcome A} (e : endsAt s q a ≡ o) where
+  pub ends-past : length s * 8 < q → o ≡ refused 1
+  ends-past l = sym e ∙ rw (lt-ltb (length s * 8) q l)
+
+  pub ends-inside : q ≤ length s * 8 → o ≡ value a q
+  ends-inside l = sym e ∙ rw (le-ltb (length s * 8) q l)
 
 -- ---- a magnitude and its sign
 
