@@ -1,5 +1,5 @@
 -- `read_codewords`: bins below i are read; those outside min to 15 - max take no bits.
-use Prim.Native.Nat.{_+_, _-_, _*_, _≤_}
+use Prim.Native.Nat.{_-_, _*_, _≤_}
 use mathlib.Core.Path.{_≡_, sym}
 use mathlib.Core.Bool.{false}
 use denote.Ref.{now}
