@@ -30,7 +30,7 @@ use Rattle.aps.proofs.EachLaws.{each-law, each-same}
 use Rattle.aps.proofs.ElementLaws.{flag-law, noNumber-is, noSigned-is, apart-law}
 use Rattle.aps.proofs.AlfLaws.{coefficient-law}
 use Rattle.aps.proofs.Bounds.{ueTo-any}
-use Rattle.aps.proofs.FieldSteps.{none-lacking, lacks-part, u-here, u-lacking, flag-read, flag-here, flag-lacking, run-lacking, ueTo-read}
+use Rattle.aps.proofs.FieldSteps.{none-lacking, lacks-part, flag-read, flag-here, flag-lacking, run-lacking, ueTo-read}
 use Rattle.aps.proofs.Steps.{judged-read, when-read, Reading, reading-start, Reading2, reading2-start}
 
 pub ueTo-most : (most : ℕ) (s : List ℕ) (p v q : ℕ) → value v q ≡ (ueTo most) .read s p → v ≤ most
@@ -97,15 +97,15 @@ pub first-coefficients : (N n : ℕ) → Lawful (apart (each N λ i. when (ltb i
 first-coefficients N n = apart-law (each-law 0 N λ i b. when-law (ltb i n) noSigned-is λ s. coefficient-law)
 
 module _ (count-1 : ℕ) (s : List ℕ) (q bits : ℕ) (width : bits ≡ ceilLog2 (count-1 + 1)) (some : 0 < count-1) where
-  pub index-lacking : lacks s q bits ≡ true → (index count-1) .read s q ≡ refused 1
-  index-lacking l = rw (when-read, lt-ltb 0 count-1 some, judged-read, ← width, u-lacking bits s q l)
+  pub index-lacking : (u bits) .read s q ≡ refused 1 → (index count-1) .read s q ≡ refused 1
+  index-lacking e = rw (when-read, lt-ltb 0 count-1 some, judged-read, ← width, e)
 
-  module _ (x : ℕ) (there : lacks s q bits ≡ false) (field : x ≡ fieldAt s q bits) where
-    pub index-taken : x ≤ count-1 → (index count-1) .read s q ≡ value x (q + bits)
-    index-taken h = rw (when-read, lt-ltb 0 count-1 some, judged-read, ← width, u-here bits s q there, ← field, le-leb x count-1 h)
+  module _ (x r : ℕ) (e : (u bits) .read s q ≡ value x r) where
+    pub index-taken : x ≤ count-1 → (index count-1) .read s q ≡ value x r
+    index-taken h = rw (when-read, lt-ltb 0 count-1 some, judged-read, ← width, e, le-leb x count-1 h)
 
     pub index-refused : count-1 < x → (index count-1) .read s q ≡ refused 2
-    index-refused h = rw (when-read, lt-ltb 0 count-1 some, judged-read, ← width, u-here bits s q there, ← field, lt-leb x count-1 h)
+    index-refused h = rw (when-read, lt-ltb 0 count-1 some, judged-read, ← width, e, lt-leb x count-1 h)
 
 -- the clip flag, and the count, which is judged
 abbrev pub head : ℕ → Codec (Bool × ℕ)
