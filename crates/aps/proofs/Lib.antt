@@ -23,6 +23,7 @@ pub mod WindowSteps
 pub mod Steps
 pub mod StopLaws
 pub mod AlfSteps
+pub mod ClipSteps
 pub mod AlternativeSteps
 pub mod LmcsSteps
 pub mod ScalingKeep
