@@ -146,10 +146,25 @@ ccOf count-1 abs sign = toCc (count-1, (abs, sign))
 
 abbrev pub alfOf : AlfRead → List ℕ → List ℕ → List Bool → List ℕ → List ℕ → List Bool → List ℕ → List ℕ → List Bool → List ℕ → List Bool → VvcAlfData
 alfOf r luma-idx luma-abs luma-sign luma-clip chroma-abs chroma-sign chroma-clip cb-abs cb-sign cr-abs cr-sign =
-    toAlf (r .luma, (r .chroma, (r .cb, (r .cr,
-    (lumaOf (r .«luma_clip») (r .«luma_count_minus1») luma-idx luma-abs luma-sign luma-clip,
-    (chromaOf (r .«chroma_clip») (r .«chroma_count_minus1») chroma-abs chroma-sign chroma-clip,
-    (ccOf (r .«cb_count_minus1») cb-abs cb-sign, ccOf (r .«cr_count_minus1») cr-abs cr-sign)))))))
+    toAlf (
+      r .luma,
+      (
+        r .chroma,
+        (
+          r .cb,
+          (
+            r .cr,
+            (
+              lumaOf (r .«luma_clip») (r .«luma_count_minus1») luma-idx luma-abs luma-sign luma-clip,
+              (
+                chromaOf (r .«chroma_clip») (r .«chroma_count_minus1») chroma-abs chroma-sign chroma-clip,
+                (ccOf (r .«cb_count_minus1») cb-abs cb-sign, ccOf (r .«cr_count_minus1») cr-abs cr-sign),
+              ),
+            ),
+          ),
+        ),
+      ),
+    )
 
 -- no filters, for this reason
 abbrev pub noAlf : Refusal → AlfRead

@@ -147,7 +147,8 @@ fn read_luma_if(
     requires { ⌜ (length (now bytes) ≤ 65536) × (p ≤ length (now bytes) * 8)
         × (now idx ≡ replicate 25 0) × (now abs ≡ replicate 300 0) × (now sign ≡ replicate 300 false) × (now clip ≡ replicate 300 0)
         × ShortCodes (now codes) ⌝ }
-    ensures { λ r. ⌜ outcomeStop (r .stop) (lumaOf (r .clip) (r .«count_minus1») (now (idx .exit)) (now (abs .exit)) (now (sign .exit)) (now (clip .exit)))
+    ensures { λ r. ⌜ outcomeStop (r .stop)
+        (lumaOf (r .clip) (r .«count_minus1») (now (idx .exit)) (now (abs .exit)) (now (sign .exit)) (now (clip .exit)))
         ≡ (luma signal) .read (now (bytes .entry)) p ⌝ }
 {
     if signal {
@@ -251,14 +252,22 @@ fn read_alf_filters(
         × (now «chroma_abs» ≡ replicate 48 0) × (now «chroma_sign» ≡ replicate 48 false) × (now «chroma_clip» ≡ replicate 48 0)
         × (now «cb_abs» ≡ replicate 28 0) × (now «cb_sign» ≡ replicate 28 false)
         × (now «cr_abs» ≡ replicate 28 0) × (now «cr_sign» ≡ replicate 28 false) ⌝ }
-    ensures { λ r. ⌜ outcomeStop (r .stop) (alfOf r (now («luma_idx» .exit)) (now («luma_abs» .exit)) (now («luma_sign» .exit)) (now («luma_clip» .exit))
+    ensures { λ r. ⌜ outcomeStop (r .stop) (alfOf r
+        (now («luma_idx» .exit)) (now («luma_abs» .exit)) (now («luma_sign» .exit)) (now («luma_clip» .exit))
         (now («chroma_abs» .exit)) (now («chroma_sign» .exit)) (now («chroma_clip» .exit))
         (now («cb_abs» .exit)) (now («cb_sign» .exit)) (now («cr_abs» .exit)) (now («cr_sign» .exit)))
         ≡ mapOutcome (λ x. toAlf (luma, (chroma, (cb, (cr, x))))) ((alfFilters luma chroma cb cr) .read (now (bytes .entry)) p) ⌝ }
 {
     let codes = short_codes();
     let l = read_luma_if(
-        bytes, &codes, p, luma, luma_idx, luma_abs, luma_sign, luma_clip,
+        bytes,
+        &codes,
+        p,
+        luma,
+        luma_idx,
+        luma_abs,
+        luma_sign,
+        luma_clip,
     );
     let luma_stop = l.stop;
     let c = read_chroma_if(
@@ -332,7 +341,8 @@ pub(crate) fn parse_alf_data(
         × (now «chroma_abs» ≡ replicate 48 0) × (now «chroma_sign» ≡ replicate 48 false) × (now «chroma_clip» ≡ replicate 48 0)
         × (now «cb_abs» ≡ replicate 28 0) × (now «cb_sign» ≡ replicate 28 false)
         × (now «cr_abs» ≡ replicate 28 0) × (now «cr_sign» ≡ replicate 28 false) ⌝ }
-    ensures { λ r. ⌜ outcomeStop (r .stop) (alfOf r (now («luma_idx» .exit)) (now («luma_abs» .exit)) (now («luma_sign» .exit)) (now («luma_clip» .exit))
+    ensures { λ r. ⌜ outcomeStop (r .stop) (alfOf r
+        (now («luma_idx» .exit)) (now («luma_abs» .exit)) (now («luma_sign» .exit)) (now («luma_clip» .exit))
         (now («chroma_abs» .exit)) (now («chroma_sign» .exit)) (now («chroma_clip» .exit))
         (now («cb_abs» .exit)) (now («cb_sign» .exit)) (now («cr_abs» .exit)) (now («cr_sign» .exit)))
         ≡ (alf chroma) .read (now (bytes .entry)) p ⌝ }

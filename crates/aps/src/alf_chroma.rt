@@ -172,7 +172,8 @@ pub(crate) fn read_cc(
 ) -> CcRead
     requires { ⌜ (length (now bytes) ≤ 65536) × (p ≤ length (now bytes) * 8) × (now abs ≡ replicate 28 0) × (now sign ≡ replicate 28 false)
         × ShortCodes (now codes) ⌝ }
-    ensures { λ r. ⌜ outcomeStop (r .stop) (ccOf (r .«count_minus1») (now (abs .exit)) (now (sign .exit))) ≡ (cc true) .read (now (bytes .entry)) p ⌝ }
+    ensures { λ r. ⌜ outcomeStop (r .stop) (ccOf (r .«count_minus1») (now (abs .exit)) (now (sign .exit)))
+        ≡ (cc true) .read (now (bytes .entry)) p ⌝ }
 {
     let count = read_ue_to(bytes, codes, p, 3);
     match count {

@@ -56,7 +56,12 @@ pub(crate) fn read_ue_to(bytes: &[u8], codes: &[u16; 512], p: usize, most: u32) 
 }
 
 // The clip flag, and the count less one.
-pub(crate) fn read_filters_head(bytes: &[u8], codes: &[u16; 512], p: usize, most: u32) -> FiltersRead
+pub(crate) fn read_filters_head(
+    bytes: &[u8],
+    codes: &[u16; 512],
+    p: usize,
+    most: u32,
+) -> FiltersRead
     requires { ⌜ (length (now bytes) ≤ 65536) × (p ≤ length (now bytes) * 8) × ShortCodes (now codes) ⌝ }
     ensures { λ r. ⌜ outcomeStop (r .stop) (r .clip, r .«count_minus1») ≡ (flag ▷ λ clip. ueTo most) .read (now (bytes .entry)) p ⌝ }
 {

@@ -57,7 +57,8 @@ pub(crate) fn read_luma(
     requires { ⌜ (length (now bytes) ≤ 65536) × (p ≤ length (now bytes) * 8)
         × (now idx ≡ replicate 25 0) × (now abs ≡ replicate 300 0) × (now sign ≡ replicate 300 false) × (now clips ≡ replicate 300 0)
         × ShortCodes (now codes) ⌝ }
-    ensures { λ r. ⌜ outcomeStop (r .stop) (lumaOf (r .clip) (r .«count_minus1») (now (idx .exit)) (now (abs .exit)) (now (sign .exit)) (now (clips .exit)))
+    ensures { λ r. ⌜ outcomeStop (r .stop)
+        (lumaOf (r .clip) (r .«count_minus1») (now (idx .exit)) (now (abs .exit)) (now (sign .exit)) (now (clips .exit)))
         ≡ (luma true) .read (now (bytes .entry)) p ⌝ }
 {
     let head = read_filters_head(bytes, codes, p, 24);

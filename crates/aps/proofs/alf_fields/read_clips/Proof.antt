@@ -81,9 +81,11 @@ loop-again c =
     let p = f .from .given .0 .0 in
     let o = l .loop in
     let w = c .before .before .before .before .window in
-    let there = sym (l .before .before .lacks-bits .ensures) ∙ l .before .if1 .left in
-    (omega arith, omega arith,
-    rw (c .before .before .put-six .ensures) (six-clips (a .n) (length (a .clip .now)) (now (a .bytes)) p (omega arith) there (o .i) (w .result) (o .clip) (o .inv .2) (omega arith) (w .ensures)))
+    let there = sym (l .before .before .lacks-bits .ensures) ∙ l .before .if1 .left in (
+      omega arith,
+      omega arith,
+      rw (c .before .before .put-six .ensures) (six-clips (a .n) (length (a .clip .now)) (now (a .bytes)) p (omega arith) there (o .i) (w .result) (o .clip) (o .inv .2) (omega arith) (w .ensures)),
+    )
 
 mul-t11 : tie.Need-mul-t11 Inv-loop μ-loop
 mul-t11 c = omega arith
