@@ -19,7 +19,7 @@ add-clip : tie.Need-add-clip
 add-clip c = search needs
 
 slice-write-clip-2 : tie.Need-slice-write-clip-2
-slice-write-clip-2 c = rw (length-set) (omega arith)
+slice-write-clip-2 c = rw length-set (omega arith)
 
 cast-clip-3 : tie.Need-cast-clip-3
 cast-clip-3 c = search needs
