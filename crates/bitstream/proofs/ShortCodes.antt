@@ -4,7 +4,7 @@ use mathlib.Core.Path.{_≡_}
 use mathlib.Core.Bool.{Bool}
 use mathlib.Core.List.{List}
 use lib.Dec.{T, eqb, eqb→eq}
-use lib.ListN.{length, getD}
+use lib.ListN.{length}
 use Rattle.bitstream.specs.Windows.{shortCode, ShortCodes}
 use Rattle.bitstream.proofs.Table.{every, at}
 

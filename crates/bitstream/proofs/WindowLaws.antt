@@ -1,7 +1,6 @@
 -- Laws of windows, stated once over the widths: how one starts, drops bits, and gives a field or a code.
 use Prim.Native.Nat.{ℕ, suc, _+_, _-_, _*_, _/_, _%_, _^_, _≤_, _<_}
-use mathlib.Core.Path.{_≡_, refl, sym, ap, _∙_}
-use mathlib.Core.Bool.{cond}
+use mathlib.Core.Path.{_≡_, sym, ap, _∙_}
 use mathlib.Core.List.{List}
 use native.Mathlib.Nat.{lt-of-lt-of-le, mul-assoc, mod-lt, div-eq-of-lt, pow-suc}
 use native.Mathlib.Decide.{decLt}

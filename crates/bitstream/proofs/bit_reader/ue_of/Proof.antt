@@ -11,9 +11,6 @@ use borrow.Author.Needs.{needs}
 use Rattle.bitstream.proofs.bit_reader.ue_of.Statement.{statement}
 use Rattle.bitstream.proofs.bit_reader.ue_of.Tie as tie
 use Rattle.bitstream.proofs.bit_reader.ue_of.Reads as reads
-use Rattle.bitstream.proofs.bit_reader.ue_of.Lts as lts
-use Rattle.bitstream.proofs.bit_reader.lacks_bits.Reads as lacks-bits-reads
-use Rattle.bitstream.proofs.bit_reader.long_ue.Reads as long-ue-reads
 
 long-ue-requires : tie.Need-long-ue-requires
 long-ue-requires c κs = search needs

@@ -7,9 +7,6 @@ use Rattle.bitstream.specs.Windows.{codeBy}
 use borrow.Author.Needs.{needs}
 use Rattle.bitstream.proofs.short_codes.code_by_table.Statement.{statement}
 use Rattle.bitstream.proofs.short_codes.code_by_table.Tie as tie
-use Rattle.bitstream.proofs.short_codes.code_by_table.Reads as reads
-use Rattle.bitstream.proofs.short_codes.code_by_table.Lts as lts
-use Rattle.bitstream.proofs.window.code_in.Reads as code-in-reads
 
 mul-e : tie.Need-mul-e
 mul-e c = search needs

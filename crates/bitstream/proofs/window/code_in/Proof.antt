@@ -6,8 +6,6 @@ use Rattle.bitstream.proofs.WindowLaws.{code-small, code-none, code-by-
 use borrow.Author.Needs.{needs}
 use Rattle.bitstream.proofs.window.code_in.Statement.{statement}
 use Rattle.bitstream.proofs.window.code_in.Tie as tie
-use Rattle.bitstream.proofs.window.code_in.Reads as reads
-use Rattle.bitstream.proofs.window.code_in.Lts as lts
 
 cast-z : tie.Need-cast-z
 cast-z c = omega (arith, leading-le 64 (c .args .w))

@@ -4,10 +4,6 @@ use Rattle.bitstream.proofs.WindowLaws.{window-here}
 use borrow.Author.Needs.{needs}
 use Rattle.bitstream.proofs.window.window.Statement.{statement}
 use Rattle.bitstream.proofs.window.window.Tie as tie
-use Rattle.bitstream.proofs.window.window.Reads as reads
-use Rattle.bitstream.proofs.window.window.Lts as lts
-use Rattle.bitstream.proofs.window.eight.Reads as eight-reads
-use Rattle.bitstream.proofs.window.window_alone.Reads as window-alone-reads
 
 add-if1 : tie.Need-add-if1
 add-if1 c = search needs

@@ -6,10 +6,6 @@ use Rattle.bitstream.proofs.WindowLaws.{window-here, window-last, windo
 use borrow.Author.Needs.{needs}
 use Rattle.bitstream.proofs.window.window_alone.Statement.{statement}
 use Rattle.bitstream.proofs.window.window_alone.Tie as tie
-use Rattle.bitstream.proofs.window.window_alone.Reads as reads
-use Rattle.bitstream.proofs.window.window_alone.Lts as lts
-use Rattle.bitstream.proofs.window.eight.Reads as eight-reads
-use Rattle.bitstream.proofs.window.last_eight.Reads as last-eight-reads
 
 returns : tie.Need-returns
 returns c = let a = c .before .before .args in window-past (now (a .bytes)) (a .p) (c .if1 .taken)

@@ -9,13 +9,6 @@ use Rattle.bitstream.proofs.CallLaws.{within-long, within-far, lacking-
 use borrow.Author.Needs.{needs}
 use Rattle.bitstream.proofs.bit_reader.BitReader.se.Statement.{statement}
 use Rattle.bitstream.proofs.bit_reader.BitReader.se.Tie as tie
-use Rattle.bitstream.proofs.bit_reader.BitReader.se.Reads as reads
-use Rattle.bitstream.proofs.bit_reader.BitReader.se.Lts as lts
-use Rattle.bitstream.proofs.bit_reader.refused_s.Reads as refused-s-reads
-use Rattle.bitstream.proofs.bit_reader.signed.Reads as signed-reads
-use Rattle.bitstream.proofs.bit_reader.ue_of.Reads as ue-of-reads
-use Rattle.bitstream.proofs.window.code_in.Reads as code-in-reads
-use Rattle.bitstream.proofs.window.window_alone.Reads as window-alone-reads
 
 refused-s-requires : tie.Need-refused-s-requires
 refused-s-requires c κs = search needs

@@ -7,10 +7,6 @@ use Rattle.bitstream.proofs.CallLaws.{se-of-ue, se-lacks, ue-below}
 use borrow.Author.Needs.{needs}
 use Rattle.bitstream.proofs.bit_reader.BitReader.se_by_table.Statement.{statement}
 use Rattle.bitstream.proofs.bit_reader.BitReader.se_by_table.Tie as tie
-use Rattle.bitstream.proofs.bit_reader.BitReader.se_by_table.Reads as reads
-use Rattle.bitstream.proofs.bit_reader.BitReader.se_by_table.Lts as lts
-use Rattle.bitstream.proofs.bit_reader.BitReader.ue_by_table.Reads as ue-by-table-reads
-use Rattle.bitstream.proofs.bit_reader.signed.Reads as signed-reads
 
 ue-by-table-requires : tie.Need-ue-by-table-requires
 ue-by-table-requires c κs = search needs

@@ -8,13 +8,6 @@ use Rattle.bitstream.proofs.WindowLaws.{table-code}
 use borrow.Author.Needs.{needs}
 use Rattle.bitstream.proofs.bit_reader.BitReader.ue_by_table.Statement.{statement}
 use Rattle.bitstream.proofs.bit_reader.BitReader.ue_by_table.Tie as tie
-use Rattle.bitstream.proofs.bit_reader.BitReader.ue_by_table.Reads as reads
-use Rattle.bitstream.proofs.bit_reader.BitReader.ue_by_table.Lts as lts
-use Rattle.bitstream.proofs.bit_reader.refused_u.Reads as refused-u-reads
-use Rattle.bitstream.proofs.bit_reader.ue_of.Reads as ue-of-reads
-use Rattle.bitstream.proofs.short_codes.code_by_table.Reads as code-by-table-reads
-use Rattle.bitstream.proofs.short_codes.short_codes.Reads as short-codes-reads
-use Rattle.bitstream.proofs.window.window_alone.Reads as window-alone-reads
 
 refused-u-requires : tie.Need-refused-u-requires
 refused-u-requires c κs = search needs
