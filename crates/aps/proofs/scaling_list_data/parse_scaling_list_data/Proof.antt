@@ -1,77 +1,96 @@
+-- `parse_scaling_list_data`: the loop's arrays are what is kept of the ids before `id`.
+use borrow.Author.Needs.{needs}
+use mathlib.Core.Path.{_≡_, sym, ap, _∙_}
+use Prim.Native.Nat.{_-_}
+use denote.Ref.{now}
+use mir.Syntax.{w32}
+use mir.Facts.{toZ-ofZ}
+use Rattle.bitstream.specs.Outcome.{mapOutcome}
+use Rattle.aps.specs.Inner.{stored, outcomeStop}
+use Rattle.aps.specs.ScalingSyntax.{Entry, idAt}
+use Rattle.aps.specs.declared.fields.Stop.{Stop}
+use Rattle.aps.proofs.ScalingKeep.{Keeping, keeping-start, keeping-more, keeping-refused, keeping-done}
 use Rattle.aps.proofs.scaling_list_data.parse_scaling_list_data.Statement.{statement}
 use Rattle.aps.proofs.scaling_list_data.parse_scaling_list_data.Tie as tie
-use Rattle.aps.proofs.scaling_list_data.parse_scaling_list_data.Reads as reads
-use Rattle.aps.proofs.scaling_list_data.parse_scaling_list_data.Lts as lts
-use Rattle.aps.proofs.scaling_list_data.read_id.Reads as read-id-reads
-use Rattle.aps.proofs.scaling_list_data.store_dc.Reads as store-dc-reads
-use Rattle.bitstream.proofs.short_codes.short_codes.Reads as short-codes-reads
 
 abbrev Inv-loop : tie.InvT-loop
-Inv-loop bytes p chroma copy₀ pred₀ delta₀ dc₀ list₀ codes at₀ id₀ copy pred delta dc list at id =
-    ?
+Inv-loop bytes p chroma copy₀ pred₀ delta₀ dc₀ list₀ codes at₀ id₀ copy pred delta dc list at id = Keeping chroma bytes p id copy pred delta dc list at
 
 abbrev μ-loop : tie.MeasureT-loop
-μ-loop bytes p chroma copy₀ pred₀ delta₀ dc₀ list₀ codes at₀ id₀ copy pred delta dc list at id = ?
+μ-loop bytes p chroma copy₀ pred₀ delta₀ dc₀ list₀ codes at₀ id₀ copy pred delta dc list at id = 28 - id
 
--- src/scaling_list_data.rt:321:17
 short-codes-requires : tie.Need-short-codes-requires Inv-loop μ-loop
-short-codes-requires c κs = ?
+short-codes-requires c κs = search needs
 
--- src/scaling_list_data.rt:324:5
 loop-holds : tie.Need-loop-holds Inv-loop μ-loop
-loop-holds c = ?
+loop-holds c =
+    let z = c .before .before .pre in
+    keeping-start _ _ _ _ _ _ _ _ (z .1) (z .2) (z .3) (z .4) (z .5) (z .6)
 
--- src/scaling_list_data.rt:325:13
 read-id-requires : tie.Need-read-id-requires Inv-loop μ-loop
-read-id-requires c κs = ?
+read-id-requires c κs =
+    let l = c .before .before .before in
+    (l .before .before .before .pre .0, l .loop .inv .near, c .before .before .loop-test .taken, l .before .short-codes .ensures)
 
--- src/scaling_list_data.rt:328:23
+-- the id that was read
+abbrev entry : tie.After-read-id Inv-loop μ-loop → Entry
+entry c =
+    let r = c .read-id .result in
+    (r .copy, (r .pred, (r .delta, (r .dc, c .read-id .last .1 .1 .1 .1 .1 .0))))
+
+stored-entry : (c : tie.After-read-id Inv-loop μ-loop) → outcomeStop {A = Entry} (c .read-id .result .stop) (entry c)
+    ≡ mapOutcome (stored (c .before .before .before .before .loop .list) (c .before .before .before .before .loop .id))
+    ((idAt (c .before .before .before .before .before .before .before .args .chroma) (c .before .before .before .before .loop .id)) .read
+    (now (c .before .before .before .before .before .before .before .args .bytes)) (c .before .before .before .before .loop .at))
+stored-entry c = c .read-id .ensures
+
 enum-known-stop : tie.Need-enum-known-stop Inv-loop μ-loop
-enum-known-stop c = ?
+enum-known-stop c = search needs
 
--- src/scaling_list_data.rt:331:27
 enum-known-stop-2 : tie.Need-enum-known-stop-2 Inv-loop μ-loop
-enum-known-stop-2 c = ?
+enum-known-stop-2 c = search needs
 
--- src/scaling_list_data.rt:331:35
 returns : tie.Need-returns Inv-loop μ-loop
-returns c = ?
+returns c =
+    let r = c .before .before .before in
+    let l = r .before .before .before .before in
+    let e = sym (ap (λ (t : Stop). outcomeStop {A = Entry} t (entry r)) (c .before .stop2 .given .1)) ∙ stored-entry r in
+    keeping-refused _ _ _ _ _ _ _ _ _ _ (l .loop .inv) _ (r .before .before .before .loop-test .taken) e
 
--- src/scaling_list_data.rt:333:9
 element-write-copy : tie.Need-element-write-copy Inv-loop μ-loop
-element-write-copy c = ?
+element-write-copy c = search needs
 
--- src/scaling_list_data.rt:334:9
 element-write-pred : tie.Need-element-write-pred Inv-loop μ-loop
-element-write-pred c = ?
+element-write-pred c = search needs
 
--- src/scaling_list_data.rt:335:9
 mul-delta : tie.Need-mul-delta Inv-loop μ-loop
-mul-delta c = ?
+mul-delta c = search needs
 
--- src/scaling_list_data.rt:335:9
 element-write-delta : tie.Need-element-write-delta Inv-loop μ-loop
-element-write-delta c = ?
+element-write-delta c = search needs
 
--- src/scaling_list_data.rt:336:9
 store-dc-requires : tie.Need-store-dc-requires Inv-loop μ-loop
-store-dc-requires c κs = ?
+store-dc-requires c κs = search needs
 
--- src/scaling_list_data.rt:337:9
 add-id : tie.Need-add-id Inv-loop μ-loop
-add-id c = ?
+add-id c = search needs
 
--- src/scaling_list_data.rt:324:5
 loop-less : tie.Need-loop-less Inv-loop μ-loop
-loop-less c = ?
+loop-less c = search needs
 
--- src/scaling_list_data.rt:324:5
 loop-again : tie.Need-loop-again Inv-loop μ-loop
-loop-again c = ?
+loop-again c =
+    let r = c .before .before .before .before .before .before in
+    let l = r .before .before .before .before in
+    let same = ap (λ (t : Stop). outcomeStop {A = Entry} t (entry r)) (c .before .before .before .before .stop .given .1) in
+    let f = toZ-ofZ {w = w32} {z = r .read-id .result .dc} (record { sfits = c .before .struct-told .given .1 .1 .1 .1 .0 .1 }) in
+    rw (c .store-dc .ensures, f)
+    (keeping-more _ _ _ _ _ _ _ _ _ _ (l .loop .inv) (entry r) _ (r .before .before .before .loop-test .taken) (sym same ∙ stored-entry r))
 
--- src/scaling_list_data.rt:305:1
 returns-2 : tie.Need-returns-2 Inv-loop μ-loop
-returns-2 c = ?
+returns-2 c =
+    let l = c .before in
+    keeping-done _ _ _ _ _ _ _ _ _ _ (l .loop .inv) (c .loop-test .left)
 
 pub parse-scaling-list-data-spec : {M : Type 1} → statement M
 parse-scaling-list-data-spec =
