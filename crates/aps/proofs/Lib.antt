@@ -20,6 +20,7 @@ pub mod RowLaws
 pub mod SignedLaws
 pub mod FieldSteps
 pub mod WindowSteps
+pub mod TableSteps
 pub mod Steps
 pub mod StopLaws
 pub mod AlfSteps

@@ -9,7 +9,7 @@ use Rattle.bitstream.specs.Windows.{IsWindow}
 use Rattle.bitstream.proofs.WindowLaws.{window-start}
 use Rattle.aps.proofs.FieldSteps.{se-of-ue}
 use Rattle.aps.proofs.SignedLaws.{abs-fits}
-use Rattle.aps.proofs.WindowSteps.{table-bits, table-value, table-ue}
+use Rattle.aps.proofs.TableSteps.{table-bits, table-value, table-ue}
 use Rattle.aps.proofs.fields.read_se.Statement.{statement}
 use Rattle.aps.proofs.fields.read_se.Tie as tie
 
@@ -29,7 +29,7 @@ module _ (c : tie.After-code-by-table) where
 add-next : tie.Need-add-next
 add-next c =
     let k = c .before in
-    omega (arith, table-bits (window k) (start k .pre .2) (k .code-by-table .ensures))
+    omega (arith, table-bits (start k .pre .2) (window k) (k .code-by-table .ensures))
 
 mul-if2 : tie.Need-mul-if2
 mul-if2 c = search needs
@@ -37,12 +37,12 @@ mul-if2 c = search needs
 se-of-requires : tie.Need-se-of-requires
 se-of-requires c κs =
     let k = c .before .before in
-    omega (arith, table-value (window k) (start k .pre .2) (k .code-by-table .ensures) (omega arith))
+    omega (arith, table-value (start k .pre .2) (window k) (k .code-by-table .ensures) (omega arith))
 
 returns : tie.Need-returns
 returns c =
     let k = c .before .before .before in
-    let e = table-ue (window k) (start k .pre .2) (k .code-by-table .ensures) (omega arith) (omega arith) (c .before .if2 .taken) in
+    let e = table-ue (start k .pre .2) (window k) (k .code-by-table .ensures) (omega arith) (omega arith) (c .before .if2 .taken) in
     rw (toZ-ofZ (abs-fits (c .se-of .result) (omega (arith, c .se-of .ensures .1))), c .se-of .ensures .0) (sym (se-of-ue _ _ e))
 
 long-se-requires : tie.Need-long-se-requires

@@ -6,7 +6,7 @@ use denote.Ref.{now}
 use Prim.Native.Nat.{_-_, _%_}
 use Rattle.bitstream.specs.Windows.{IsWindow}
 use Rattle.bitstream.proofs.WindowLaws.{window-start}
-use Rattle.aps.proofs.WindowSteps.{table-bits, table-ue}
+use Rattle.aps.proofs.TableSteps.{table-bits, table-ue}
 use Rattle.aps.proofs.fields.read_ue.Statement.{statement}
 use Rattle.aps.proofs.fields.read_ue.Tie as tie
 
@@ -26,7 +26,7 @@ module _ (c : tie.After-code-by-table) where
 add-next : tie.Need-add-next
 add-next c =
     let k = c .before in
-    omega (arith, table-bits (window k) (start k .pre .2) (k .code-by-table .ensures))
+    omega (arith, table-bits (start k .pre .2) (window k) (k .code-by-table .ensures))
 
 mul-if2 : tie.Need-mul-if2
 mul-if2 c = search needs
@@ -34,7 +34,7 @@ mul-if2 c = search needs
 returns : tie.Need-returns
 returns c =
     let k = c .before .before in
-    sym (table-ue (window k) (start k .pre .2) (k .code-by-table .ensures) (omega arith) (omega arith) (c .if2 .taken))
+    sym (table-ue (start k .pre .2) (window k) (k .code-by-table .ensures) (omega arith) (omega arith) (c .if2 .taken))
 
 long-ue-requires : tie.Need-long-ue-requires
 long-ue-requires c κs = search needs
