@@ -1,110 +1,76 @@
--- `read_indexes`: the loop has read the first i indexes.
-use mathlib.Core.Path.{sym, _∙_}
-use Prim.Native.Nat.{_+_, _-_, _*_, _≤_}
-use native.Mathlib.Omega.{arith}
-use borrow.Author.Needs.{needs}
-use borrow.Author.Tests.{le-ltb}
-use denote.Ref.{now}
-use lib.ListN.{length}
-use Rattle.aps.proofs.CodecLaws.{inside}
-use Rattle.aps.proofs.Steps.{when-read, Reading, reading-more, reading-done, reading-refused}
-use Rattle.aps.proofs.AlfSteps.{reading-from, index, index-law, index-lacking, index-taken, index-refused}
 use Rattle.aps.proofs.alf_luma.read_indexes.Statement.{statement}
 use Rattle.aps.proofs.alf_luma.read_indexes.Tie as tie
+use Rattle.aps.proofs.alf_luma.read_indexes.Reads as reads
+use Rattle.aps.proofs.alf_luma.read_indexes.Lts as lts
+use Rattle.aps.proofs.alf_fields.ceil_log2.Reads as ceil-log2-reads
+use Rattle.aps.proofs.windows.held_u.Reads as held-u-reads
+use Rattle.aps.proofs.windows.window_at.Reads as window-at-reads
 
 abbrev Inv-loop : tie.InvT-loop
-Inv-loop bytes p count-minus1 idx₀ bits at₀ i₀ idx at i = (i ≤ 25) × (at ≤ length bytes * 8) × Reading (λ i. index count-minus1) 25 0 bytes p i idx at
+Inv-loop bytes p count-minus1 idx₀ bits held₀ i₀ idx held i = ?
 
 abbrev μ-loop : tie.MeasureT-loop
-μ-loop bytes p count-minus1 idx₀ bits at₀ i₀ idx at i = 25 - i
+μ-loop bytes p count-minus1 idx₀ bits held₀ i₀ idx held i = ?
 
+-- src/alf_luma.rt:26:9
 returns : tie.Need-returns Inv-loop μ-loop
-returns c =
-    let b = c .before .before in
-    let a = b .args in
-    let s = now (a .bytes) in
-    let n = a .count-minus1 in
-    sym (reading-done (λ i. index n) 25 0 s (a .p) 0 (a .idx .now) (a .p) (reading-from (λ i. index n) 25 0 s (a .p) (a .idx .now) (b .pre .3)) (omega arith) (λ j h l. rw (when-read, le-ltb 0 n (omega arith))))
+returns c = ?
 
+-- src/alf_luma.rt:28:26
 add-ceil-log2 : tie.Need-add-ceil-log2 Inv-loop μ-loop
-add-ceil-log2 c = omega arith
+add-ceil-log2 c = ?
 
+-- src/alf_luma.rt:28:9
 ceil-log2-requires : tie.Need-ceil-log2-requires Inv-loop μ-loop
-ceil-log2-requires c κs = search needs
+ceil-log2-requires c κs = ?
 
+-- src/alf_luma.rt:29:9
+window-at-requires : tie.Need-window-at-requires Inv-loop μ-loop
+window-at-requires c κs = ?
+
+-- src/alf_luma.rt:31:5
 loop-holds : tie.Need-loop-holds Inv-loop μ-loop
-loop-holds c =
-    let b = c .before .before .before in
-    let a = b .args in
-    (omega arith, b .pre .1, reading-from (λ i. index (a .count-minus1)) 25 0 (now (a .bytes)) (a .p) (a .idx .now) (b .pre .3))
+loop-holds c = ?
 
-cast-lacks-bits : tie.Need-cast-lacks-bits Inv-loop μ-loop
-cast-lacks-bits c = search needs
+-- src/alf_luma.rt:32:13
+held-u-requires : tie.Need-held-u-requires Inv-loop μ-loop
+held-u-requires c κs = ?
 
-lacks-bits-requires : tie.Need-lacks-bits-requires Inv-loop μ-loop
-lacks-bits-requires c κs = (omega arith, omega arith, omega arith)
+-- src/alf_luma.rt:34:12
+mul-if2 : tie.Need-mul-if2 Inv-loop μ-loop
+mul-if2 c = ?
 
+-- src/alf_luma.rt:35:13
 returns-2 : tie.Need-returns-2 Inv-loop μ-loop
-returns-2 c =
-    let l = c .before .before .before in
-    let a = l .before .before .before .before .args in
-    let o = l .loop in
-    let n = a .count-minus1 in
-    let w = l .before .ceil-log2 in
-    let e = index-lacking n (now (a .bytes)) (o .at) (w .result) (w .ensures .0) (omega arith) (sym (c .before .lacks-bits .ensures) ∙ c .if2 .taken) in
-    sym (reading-refused (λ i. index n) 25 0 (now (a .bytes)) (a .p) (o .i) (o .idx) (o .at) (o .inv .2) 1 (omega arith) e)
+returns-2 c = ?
 
-read-u-requires : tie.Need-read-u-requires Inv-loop μ-loop
-read-u-requires c κs = (omega arith, omega arith, omega arith)
-
+-- src/alf_luma.rt:39:13
 returns-3 : tie.Need-returns-3 Inv-loop μ-loop
-returns-3 c =
-    let d = c .before .before in
-    let l = d .before .before .before in
-    let a = l .before .before .before .before .args in
-    let o = l .loop in
-    let n = a .count-minus1 in
-    let k = c .before .read-u in
-    let w = l .before .ceil-log2 in
-    let e = index-refused n (now (a .bytes)) (o .at) (w .result) (w .ensures .0) (omega arith) (k .result) (sym (d .before .lacks-bits .ensures) ∙ d .if2 .left) (k .ensures) (c .if3 .taken) in
-    sym (reading-refused (λ i. index n) 25 0 (now (a .bytes)) (a .p) (o .i) (o .idx) (o .at) (o .inv .2) 2 (omega arith) e)
+returns-3 c = ?
 
+-- src/alf_luma.rt:41:18
 cast-idx : tie.Need-cast-idx Inv-loop μ-loop
-cast-idx c = omega arith
+cast-idx c = ?
 
+-- src/alf_luma.rt:41:9
 element-write-idx : tie.Need-element-write-idx Inv-loop μ-loop
-element-write-idx c = omega arith
+element-write-idx c = ?
 
-cast-at : tie.Need-cast-at Inv-loop μ-loop
-cast-at c = omega arith
-
-add-at : tie.Need-add-at Inv-loop μ-loop
-add-at c = omega arith
-
+-- src/alf_luma.rt:42:9
 add-i : tie.Need-add-i Inv-loop μ-loop
-add-i c = omega arith
+add-i c = ?
 
+-- src/alf_luma.rt:31:5
 loop-less : tie.Need-loop-less Inv-loop μ-loop
-loop-less c = omega arith
+loop-less c = ?
 
+-- src/alf_luma.rt:31:5
 loop-again : tie.Need-loop-again Inv-loop μ-loop
-loop-again c =
-    let d = c .before .before in
-    let l = d .before .before .before in
-    let a = l .before .before .before .before .args in
-    let o = l .loop in
-    let n = a .count-minus1 in
-    let k = c .before .read-u in
-    let w = l .before .ceil-log2 in
-    let e = index-taken n (now (a .bytes)) (o .at) (w .result) (w .ensures .0) (omega arith) (k .result) (sym (d .before .lacks-bits .ensures) ∙ d .if2 .left) (k .ensures) (c .if3 .left) in
-    (omega arith, inside (index-law n) _ _ _ _ e (o .inv .1), reading-more (λ i. index n) 25 0 (now (a .bytes)) (a .p) (o .i) (o .idx) (o .at) (o .inv .2) (k .result) (o .at + w .result) (omega arith) e)
+loop-again c = ?
 
+-- src/alf_luma.rt:21:1
 returns-4 : tie.Need-returns-4 Inv-loop μ-loop
-returns-4 c =
-    let l = c .before in
-    let a = l .before .before .before .before .args in
-    let o = l .loop in
-    sym (reading-done (λ i. index (a .count-minus1)) 25 0 (now (a .bytes)) (a .p) (o .i) (o .idx) (o .at) (o .inv .2) (omega arith) (λ j h l. absurd (omega arith)))
+returns-4 c = ?
 
 pub read-indexes-spec : {M : Type 1} → statement M
 read-indexes-spec =
@@ -115,16 +81,14 @@ read-indexes-spec =
     returns
     add-ceil-log2
     ceil-log2-requires
+    window-at-requires
     loop-holds
-    cast-lacks-bits
-    lacks-bits-requires
+    held-u-requires
+    mul-if2
     returns-2
-    read-u-requires
     returns-3
     cast-idx
     element-write-idx
-    cast-at
-    add-at
     add-i
     loop-less
     loop-again
