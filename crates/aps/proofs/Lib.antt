@@ -23,6 +23,7 @@ pub mod WindowSteps
 pub mod TableSteps
 pub mod Steps
 pub mod StopLaws
+pub mod CoefficientSteps
 pub mod AlfSteps
 pub mod AlternativeSteps
 pub mod LmcsSteps
