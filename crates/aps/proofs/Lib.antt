@@ -20,8 +20,10 @@ pub mod RowLaws
 pub mod SignedLaws
 pub mod FieldSteps
 pub mod WindowSteps
+pub mod TableSteps
 pub mod Steps
 pub mod StopLaws
+pub mod CoefficientSteps
 pub mod AlfSteps
 pub mod ClipSteps
 pub mod AlternativeSteps

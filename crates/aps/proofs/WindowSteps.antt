@@ -67,7 +67,7 @@ module _ {s : List ℕ} {p left w n : ℕ} (h : IsWindow s p left w) (a : 0 < n)
   abbrev sign : ℕ → Bool
   sign m = eqb (w / 2 ^ (63 - n) % 2 * m) 1
 
-  sign-read : flag .read s (p + n) ≡ endsAt s (p + (n + 1)) (sign 1)
+  pub sign-read : flag .read s (p + n) ≡ endsAt s (p + (n + 1)) (sign 1)
   unfolding lacks
   sign-read =
       let b = w / 2 ^ (63 - n) % 2 in

@@ -29,7 +29,7 @@ add-read-ue-to c = search needs
 read-ue-to-requires : tie.Need-read-ue-to-requires
 read-ue-to-requires c κs =
     let b = c .before .before .before .before in
-    (b .pre .0, lacks-none (now (b .args .bytes)) (b .args .p) 1 (omega arith) (sym (c .before .before .lacks-bits .ensures) ∙ c .before .if1 .left))
+    (b .pre .0, lacks-none (now (b .args .bytes)) (b .args .p) 1 (omega arith) (sym (c .before .before .lacks-bits .ensures) ∙ c .before .if1 .left), b .pre .2)
 
 enum-known-count : tie.Need-enum-known-count
 enum-known-count c = search needs

@@ -1,37 +1,44 @@
+-- `read_ue`: a code that the table finds and that ends inside the input is what the syntax reads there.
 use borrow.Author.Needs.{needs}
+use mathlib.Core.Path.{sym}
+use native.Mathlib.Omega.{arith}
+use denote.Ref.{now}
+use Prim.Native.Nat.{_-_, _%_}
+use Rattle.bitstream.specs.Windows.{IsWindow}
+use Rattle.bitstream.proofs.WindowLaws.{window-start}
+use Rattle.aps.proofs.TableSteps.{table-bits, table-ue}
 use Rattle.aps.proofs.fields.read_ue.Statement.{statement}
 use Rattle.aps.proofs.fields.read_ue.Tie as tie
-use Rattle.aps.proofs.fields.read_ue.Reads as reads
-use Rattle.aps.proofs.fields.read_ue.Lts as lts
-use Rattle.aps.proofs.fields.long_ue.Reads as long-ue-reads
-use Rattle.bitstream.proofs.short_codes.code_by_table.Reads as code-by-table-reads
-use Rattle.bitstream.proofs.window.window_alone.Reads as window-alone-reads
 
--- src/fields.rt:85:37
 window-alone-requires : tie.Need-window-alone-requires
 window-alone-requires c κs = search needs
 
--- src/fields.rt:85:9
 code-by-table-requires : tie.Need-code-by-table-requires
 code-by-table-requires c κs = search needs
 
--- src/fields.rt:88:20
-add-next : tie.Need-add-next
-add-next c = ?
+module _ (c : tie.After-code-by-table) where
+  abbrev start : tie.Start
+  start = c .before .before .before
 
--- src/fields.rt:89:20
+  window : IsWindow (now (start .args .bytes)) (start .args .p) (64 - start .args .p % 8) (c .before .window-alone .result)
+  window = window-start _ _ _ (c .before .window-alone .ensures)
+
+add-next : tie.Need-add-next
+add-next c =
+    let k = c .before in
+    omega (arith, table-bits (start k .pre .2) (window k) (k .code-by-table .ensures))
+
 mul-if2 : tie.Need-mul-if2
 mul-if2 c = search needs
 
--- src/fields.rt:90:13
 returns : tie.Need-returns
-returns c = ?
+returns c =
+    let k = c .before .before in
+    sym (table-ue (start k .pre .2) (window k) (k .code-by-table .ensures) (omega arith) (omega arith) (c .if2 .taken))
 
--- src/fields.rt:93:5
 long-ue-requires : tie.Need-long-ue-requires
 long-ue-requires c κs = search needs
 
--- src/fields.rt:81:1
 returns-2 : tie.Need-returns-2
 returns-2 c = search needs
 
