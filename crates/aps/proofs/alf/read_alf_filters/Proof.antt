@@ -16,6 +16,9 @@ use Rattle.aps.proofs.Bounds.{stops-inside}
 use Rattle.aps.proofs.alf.read_alf_filters.Statement.{statement}
 use Rattle.aps.proofs.alf.read_alf_filters.Tie as tie
 
+short-codes-requires : tie.Need-short-codes-requires
+short-codes-requires c κs = search needs
+
 read-luma-if-requires : tie.Need-read-luma-if-requires
 read-luma-if-requires c κs = search needs
 
@@ -23,71 +26,74 @@ read-luma-if-requires c κs = search needs
 abbrev luma-read : tie.After-read-luma-if → VvcAlfLuma
 luma-read c =
     let k = c .read-luma-if in
-    let l = k .last .1 .1 .1 in
+    let l = k .last .1 .1 .1 .1 in
     lumaOf (k .result .clip) (k .result .«count_minus1») (l .0) (l .1 .0) (l .1 .1 .0) (l .1 .1 .1 .0)
 
-luma-ends : (c : tie.After-read-luma-if) → StopsBy (c .read-luma-if .result .stop) (length (now (c .before .before .before .before .before .before .args .bytes)) * 8)
+luma-ends : (c : tie.After-read-luma-if) → StopsBy (c .read-luma-if .result .stop) (length (now (c .before .before .before .before .before .before .before .before .args .bytes)) * 8)
 luma-ends c =
     let k = c .read-luma-if in
-    let b = c .before .before .before .before .before .before in
+    let b = c .before .before .before .before .before .before .before .before in
     stops-inside (luma-law (b .args .luma)) (now (b .args .bytes)) (Stop.End (b .args .p)) (k .result .stop) (luma-read c) (k .ensures) (b .pre .1)
 
 read-chroma-if-requires : tie.Need-read-chroma-if-requires
 read-chroma-if-requires c κs =
-    let l = c .before .before .before in
-    let b = l .before .before .before .before .before .before in
-    (b .pre .0, luma-ends l, b .pre .6, b .pre .7, b .pre .8)
+    let l = c .before .before .before .before in
+    let t = l .before .before .before .before .before .before in
+    let b = t .before .before in
+    (b .pre .0, luma-ends l, b .pre .6, b .pre .7, b .pre .8, t .short-codes .ensures)
 
 abbrev chroma-read : tie.After-read-chroma-if → VvcAlfChroma
 chroma-read c =
     let k = c .read-chroma-if in
-    let l = k .last .1 .1 .1 in
+    let l = k .last .1 .1 .1 .1 in
     chromaOf (k .result .clip) (k .result .«count_minus1») (l .0) (l .1 .0) (l .1 .1 .0)
 
-chroma-ends : (c : tie.After-read-chroma-if) → StopsBy (c .read-chroma-if .result .stop) (length (now (c .before .before .before .before .before .before .before .before .before .before .args .bytes)) * 8)
+chroma-ends : (c : tie.After-read-chroma-if) → StopsBy (c .read-chroma-if .result .stop) (length (now (c .before .before .before .before .before .before .before .before .before .before .before .before .before .args .bytes)) * 8)
 chroma-ends c =
     let k = c .read-chroma-if in
-    let l = c .before .before .before .before in
-    let a = l .before .before .before .before .before .before .args in
+    let l = c .before .before .before .before .before in
+    let a = l .before .before .before .before .before .before .before .before .args in
     stops-inside (chroma-law (a .chroma)) (now (a .bytes)) (l .read-luma-if .result .stop) (k .result .stop) (chroma-read c) (k .ensures) (luma-ends l)
 
 read-cc-if-requires : tie.Need-read-cc-if-requires
 read-cc-if-requires c κs =
-    let k = c .before .before in
-    let b = k .before .before .before .before .before .before .before .before .before .before in
-    (b .pre .0, chroma-ends k, b .pre .9, b .pre .10)
+    let k = c .before .before .before in
+    let t = k .before .before .before .before .before .before .before .before .before .before .before in
+    let b = t .before .before in
+    (b .pre .0, chroma-ends k, b .pre .9, b .pre .10, t .short-codes .ensures)
 
 abbrev cb-read : tie.After-read-cc-if → VvcAlfCcFilters
 cb-read c =
     let k = c .read-cc-if in
-    let l = k .last .1 .1 .1 in
+    let l = k .last .1 .1 .1 .1 in
     ccOf (k .result .«count_minus1») (l .0) (l .1 .0)
 
 read-cc-if-requires-2 : tie.Need-read-cc-if-requires-2
 read-cc-if-requires-2 c κs =
-    let d = c .before .before in
+    let d = c .before .before .before in
     let k = d .read-cc-if in
-    let l = d .before .before .before in
-    let b = l .before .before .before .before .before .before .before .before .before .before in
-    (b .pre .0, stops-inside (cc-law (b .args .cb)) (now (b .args .bytes)) (l .read-chroma-if .result .stop) (k .result .stop) (cb-read d) (k .ensures) (chroma-ends l), b .pre .11, b .pre .12)
+    let l = d .before .before .before .before in
+    let t = l .before .before .before .before .before .before .before .before .before .before .before in
+    let b = t .before .before in
+    (b .pre .0, stops-inside (cc-law (b .args .cb)) (now (b .args .bytes)) (l .read-chroma-if .result .stop) (k .result .stop) (cb-read d) (k .ensures) (chroma-ends l), b .pre .11, b .pre .12, t .short-codes .ensures)
 
 abbrev cr-read : tie.After-read-cc-if2 → VvcAlfCcFilters
 cr-read c =
     let k = c .read-cc-if2 in
-    let l = k .last .1 .1 .1 in
+    let l = k .last .1 .1 .1 .1 in
     ccOf (k .result .«count_minus1») (l .0) (l .1 .0)
 
 returns : tie.Need-returns
 unfolding toAlf
 returns c =
     let r = c .read-cc-if2 in
-    let d = c .before .before .before in
+    let d = c .before .before .before .before in
     let b = d .read-cc-if in
-    let e = d .before .before .before in
+    let e = d .before .before .before .before in
     let k = e .read-chroma-if in
-    let f = e .before .before .before .before in
+    let f = e .before .before .before .before .before in
     let l = f .read-luma-if in
-    let a = f .before .before .before .before .before .before .args in
+    let a = f .before .before .before .before .before .before .before .before .args in
     let s = now (a .bytes) in
     let both = ▷-after (cc (a .cb)) (λ d. cc (a .cr)) s (k .result .stop) (b .result .stop) (r .result .stop) (cb-read d) (cr-read c) (b .ensures) (r .ensures) in
     let rest = ▷-after (chroma (a .chroma)) (λ d. cc (a .cb) ▷ λ d. cc (a .cr)) s (l .result .stop) (k .result .stop) (r .result .stop) (chroma-read e) _ (k .ensures) both in
@@ -98,6 +104,7 @@ pub read-alf-filters-spec : {M : Type 1} → statement M
 read-alf-filters-spec =
     tie.close
     (tie.spec
+    short-codes-requires
     read-luma-if-requires
     read-chroma-if-requires
     read-cc-if-requires

@@ -14,7 +14,7 @@ read-cc-requires : tie.Need-read-cc-requires
 read-cc-requires c κs =
     let f = c .before .before .before .before in
     let b = f .before .before .before in
-    (b .pre .0, rw (f .from .given .1) at (b .pre .1), b .pre .2, b .pre .3)
+    (b .pre .0, rw (f .from .given .1) at (b .pre .1), b .pre .2, b .pre .3, b .pre .4)
 
 returns : tie.Need-returns
 returns c =
