@@ -1,8 +1,8 @@
 -- A turn of the loop over the clips: six fields of two bits out of one window.
 use mathlib.Core.Path.{_≡_}
-use mathlib.Core.Bool.{false}
+use mathlib.Core.Bool.{Bool, true, false, cond}
 use mathlib.Core.List.{List}
-use Prim.Native.Nat.{ℕ, suc, _+_, _*_, _/_, _^_, _≤_, _<_}
+use Prim.Native.Nat.{ℕ, suc, _+_, _*_, _/_, _%_, _^_, _≤_, _<_}
 use native.Mathlib.Nat.{add-zero}
 use native.Mathlib.Numerals.{add-one}
 use native.Mathlib.Omega.{arith}
@@ -55,3 +55,8 @@ module _ (n N : ℕ) (s : List ℕ) (p : ℕ) (l : n ≤ N) (there : lacks s p (
       let c : i + 6 ≡ suc (suc (suc (suc (suc (suc i))))) = omega arith in
       let d : p + 2 * (i + 6) ≡ q + 12 = omega arith in
       rw (d, c) r6
+
+-- the clips that are sent are six to a row
+pub sent-rows : (clip : Bool) (n k : ℕ) → n % 6 ≡ 0 → k ≡ cond clip n 0 → k % 6 ≡ 0
+sent-rows true n k h e = rw e h
+sent-rows false n k h e = rw e

@@ -45,7 +45,7 @@ read-alternatives-requires c κs =
     let b = h .before .before .before .before .before in
     let s = now (b .args .bytes) in
     let p = b .args .p in
-    (b .pre .0, head-inside 7 s p (announced h) (b .pre .1), head-most 7 s p (announced h), b .pre .2, b .pre .3, b .pre .4)
+    (b .pre .0, head-inside 7 s p (announced h) (b .pre .1), head-most 7 s p (announced h), b .pre .2, b .pre .3, b .pre .4, b .pre .5)
 
 returns-2 : tie.Need-returns-2
 unfolding chroma chromaSyntax
@@ -55,7 +55,7 @@ returns-2 c =
     let k = h .before .before .before .read-filters-head in
     let a = h .before .before .before .before .before .args in
     let s = now (a .bytes) in
-    let l = d .last .1 .1 .1 .1 in
+    let l = d .last .1 .1 .1 .1 .1 in
     chroma-of-arrays (k .result .clip) (k .result .«count_minus1») (d .result) (l .0) (l .1 .0) (l .1 .1 .0) ((alternatives (k .result .clip) (k .result .«count_minus1»)) .read s (h .before .at .given .0 .0)) (d .ensures)
     ∙ sym (rw (headed-read toChroma fromChroma (λ d. eqb (length (d .«coeff_abs»)) (length (d .«coeff_sign»))) noChroma 7 alternatives s (a .p), announced h))
 

@@ -16,6 +16,7 @@ use Rattle.aps.proofs.AlfSteps.{luma-coefficients, luma-clips, filled-l
 use Rattle.aps.proofs.Answers.{answered}
 use Rattle.aps.proofs.Bounds.{stops-inside}
 use Rattle.aps.proofs.EachLaws.{each-law}
+use Rattle.aps.proofs.ClipSteps.{sent-rows}
 use Rattle.aps.proofs.StopLaws.{after-same, map-stop, ▷-after}
 use Rattle.aps.proofs.alf_luma.read_luma.Statement.{statement}
 use Rattle.aps.proofs.alf_luma.read_luma.Tie as tie
@@ -75,7 +76,7 @@ read-coefficients-requires c κs =
     let b = h .before .before .before .before .before in
     let most = head-most 24 (now (b .args .bytes)) (b .args .p) (announced h) in
     let size = filled-length 300 0 (b .pre .3) in
-    (b .pre .0, indexed i, omega (arith, most, size), omega (arith, most), filled-as 0 size (b .pre .3), filled-as false size (b .pre .4))
+    (b .pre .0, indexed i, omega (arith, most, size), omega (arith, most), filled-as 0 size (b .pre .3), filled-as false size (b .pre .4), b .pre .6)
 
 clips-sent-requires : tie.Need-clips-sent-requires
 clips-sent-requires c κs = search needs
@@ -91,9 +92,10 @@ read-clips-requires c κs =
     let most = head-most 24 (now (b .args .bytes)) (b .args .p) (announced h) in
     let size = filled-length 300 0 (b .pre .5) in (
       b .pre .0,
-      stops-inside (first-coefficients (length (now (b .args .abs))) (12 * (h .before .before .before .read-filters-head .result .«count_minus1» + 1))) (now (b .args .bytes)) (i .read-indexes .result) (e .result) (e .last .1 .1 .1 .0, e .last .1 .1 .1 .1 .0) (e .ensures) (indexed i),
+      stops-inside (first-coefficients (length (now (b .args .abs))) (12 * (h .before .before .before .read-filters-head .result .«count_minus1» + 1))) (now (b .args .bytes)) (i .read-indexes .result) (e .result) (e .last .1 .1 .1 .1 .0, e .last .1 .1 .1 .1 .1 .0) (e .ensures) (indexed i),
       omega (arith, most, size, w .ensures .1),
       omega (arith, most, w .ensures .1),
+      sent-rows (h .before .before .before .read-filters-head .result .clip) _ _ (omega arith) (w .ensures .0),
       filled-as 0 size (b .pre .5),
     )
 
@@ -113,7 +115,7 @@ returns-2 c =
     let m = h .before .before .before .read-filters-head .result .«count_minus1» in
     let q = h .before .at .given .0 .0 in
     let idx = f .last .1 .1 .1 .0 in
-    let coeff : List ℕ × List Bool = (e .last .1 .1 .1 .0, e .last .1 .1 .1 .1 .0) in
+    let coeff : List ℕ × List Bool = (e .last .1 .1 .1 .1 .0, e .last .1 .1 .1 .1 .1 .0) in
     let clips = d .last .1 .1 .1 .0 in
     let coefficients = rw (filled-length 300 0 (b .pre .3)) at (e .ensures) ∙ after-same (f .result) _ _ (λ q. luma-coefficients m s q) in
     let cut = rw (filled-length 300 0 (b .pre .5), w .ensures .0) at (d .ensures) ∙ after-same (e .result) _ _ (λ q. luma-clips m s q clip) in
