@@ -9,11 +9,9 @@ use lib.IntN.{ℤ, _+ℤ_}
 use mir.Syntax.{w32}
 use mir.Val.{toZ, ofZ, SFits}
 use mir.Facts.{toZ-ofZ}
-use Rattle.bitstream.specs.Windows.{codeIn, found}
-use Rattle.bitstream.proofs.WindowLaws.{code-most, table-code}
 use Rattle.aps.specs.ScalingSyntax.{skipped, step}
 use Rattle.aps.proofs.SignedLaws.{abs-fits, add-abs}
-use Rattle.aps.proofs.WindowSteps.{found-ue}
+use Rattle.aps.proofs.TableSteps.{table-bits, table-ue}
 use Rattle.aps.proofs.ScalingSteps.{position, se8-of-ue, step-skip, step-sent, step-value}
 use Rattle.aps.proofs.scaling_list_data.held_step.Statement.{statement}
 use Rattle.aps.proofs.scaling_list_data.held_step.Tie as tie
@@ -44,11 +42,8 @@ module _ (c : tie.After-code-by-table) where
   sent : skipped (start .args .id) (start .args .i) ≡ false
   sent = position (start .args .id) (start .args .i) (start .pre .3) ∙ sym (c .before .before .before .step-skipped .ensures) ∙ c .before .before .if1 .left
 
-  code-is : found (c .code-by-table .result) ≡ codeIn (c .before .filled .result .bits)
-  code-is = c .code-by-table .ensures ∙ table-code (start .pre .5) _ (c .before .filled .ensures .0 .fits)
-
   few : c .code-by-table .result .bits ≤ 17
-  few = code-most _ _ code-is
+  few = table-bits (start .pre .5) (c .before .filled .ensures .0) (c .code-by-table .ensures)
 
 add-if4 : tie.Need-add-if4
 add-if4 c =
@@ -86,7 +81,7 @@ returns-2 c =
     let k = code r in
     let s = now (start k .args .bytes) in
     let f = k .before .filled .ensures in
-    let u = found-ue (f .0) _ (code-is k) (omega arith) (omega (arith, few k, f .2)) (r .before .if4 .taken) in
+    let u = table-ue (start k .pre .5) (f .0) (k .code-by-table .ensures) (omega arith) (f .2) (r .before .if4 .taken) in
     let e = step-sent _ _ _ _ _ (sent k) ∙ ap ((step (start k .args .prev)) .read s) (sym (f .1)) ∙ step-value _ _ _ (se8-of-ue _ _ u (r .before .before .if3 .taken) (r .se-of .ensures .0)) in
     (rw (value-is r, prev-is k, toZ-ofZ (sum-fits r), c .past .ensures .0) (sym e), c .past .ensures .1 s (f .0))
 
