@@ -9,6 +9,7 @@ pub fn compare() -> Vec<Tally> {
         every_two_bytes(),
         every_length(),
         long_inputs(),
+        every_place(),
         every_width_and_place(),
         codes_written(),
         fields_written(),
@@ -21,14 +22,22 @@ fn reads(t: &mut Tally, bytes: &[u8], at: usize) {
         let asked = || format!("u {n} at {at} of {bytes:02X?}");
         t.same(asked, library::u(bytes, at, n), expected::u(bytes, at, n));
     }
-    let asked = |call| move || format!("{call} at {at} of {bytes:02X?}");
-    t.same(asked("ue"), library::ue(bytes, at), expected::ue(bytes, at));
-    t.same(asked("se"), library::se(bytes, at), expected::se(bytes, at));
+    both_ways(t, bytes, at);
     t.same(
-        asked("trailing"),
+        || format!("trailing at {at} of {bytes:02X?}"),
         library::trailing(bytes, at),
         expected::trailing(bytes, at),
     );
+}
+
+/// ue and se at one place, each in clause 9.2's order and by the table of short codes.
+fn both_ways(t: &mut Tally, bytes: &[u8], at: usize) {
+    let asked = |call| move || format!("{call} at {at} of {bytes:02X?}");
+    let (ue, se) = (expected::ue(bytes, at), expected::se(bytes, at));
+    t.same(asked("ue"), library::ue(bytes, at), ue);
+    t.same(asked("ue by table"), library::ue_by_table(bytes, at), ue);
+    t.same(asked("se"), library::se(bytes, at), se);
+    t.same(asked("se by table"), library::se_by_table(bytes, at), se);
 }
 
 fn every_two_bytes() -> Tally {
@@ -80,6 +89,19 @@ fn long_inputs() -> Tally {
     for len in [0, 1, 7, 8, 9] {
         for at in [1_048_575, 1_048_576, 1_048_577, usize::MAX - 64, usize::MAX] {
             reads(&mut t, &random.bytes(len), at);
+        }
+    }
+    t
+}
+
+fn every_place() -> Tally {
+    let mut t = Tally::new("ue and se both ways, every place of 10,000");
+    let mut random = Random::new(6);
+    for i in 0..10_000 {
+        let len = random.below(33);
+        let bytes = if i % 2 == 0 { random.bytes(len) } else { random.sparse(len) };
+        for at in 0..len * 8 + 70 {
+            both_ways(&mut t, &bytes, at);
         }
     }
     t

@@ -9,6 +9,8 @@ pub mod raw {
         pub fn bitstream_u(bytes: *const u8, len: usize, at: usize, n: u32, answer: *mut u64) -> u32;
         pub fn bitstream_ue(bytes: *const u8, len: usize, at: usize, answer: *mut u64) -> u32;
         pub fn bitstream_se(bytes: *const u8, len: usize, at: usize, answer: *mut i64) -> u32;
+        pub fn bitstream_ue_by_table(bytes: *const u8, len: usize, at: usize, answer: *mut u64) -> u32;
+        pub fn bitstream_se_by_table(bytes: *const u8, len: usize, at: usize, answer: *mut i64) -> u32;
         pub fn bitstream_trailing(bytes: *const u8, len: usize, at: usize, answer: *mut u64) -> u32;
         pub fn bitstream_write_bits(out: *mut u8, len: usize, at: usize, value: u32, n: u32, answer: *mut u64) -> u32;
         pub fn bitstream_write_ue(out: *mut u8, len: usize, at: usize, value: u32, answer: *mut u64) -> u32;
@@ -42,16 +44,37 @@ pub fn u(bytes: &[u8], at: usize, n: u32) -> Field {
     read(code, answer).map(|[v, q, lacking]| (v as i64, q as usize, lacking))
 }
 
-pub fn ue(bytes: &[u8], at: usize) -> Field {
+/// A call that reads an unsigned field at a bit.
+type Unsigned = unsafe extern "C" fn(*const u8, usize, usize, *mut u64) -> u32;
+/// A call that reads a signed field at a bit.
+type Signed = unsafe extern "C" fn(*const u8, usize, usize, *mut i64) -> u32;
+
+fn unsigned(call: Unsigned, bytes: &[u8], at: usize) -> Field {
     let mut answer = [MARK; 3];
-    let code = unsafe { raw::bitstream_ue(bytes.as_ptr(), bytes.len(), at, answer.as_mut_ptr()) };
+    let code = unsafe { call(bytes.as_ptr(), bytes.len(), at, answer.as_mut_ptr()) };
     read(code, answer).map(|[v, q, lacking]| (v as i64, q as usize, lacking))
 }
 
-pub fn se(bytes: &[u8], at: usize) -> Field {
+fn signed(call: Signed, bytes: &[u8], at: usize) -> Field {
     let mut answer = [MARK as i64; 3];
-    let code = unsafe { raw::bitstream_se(bytes.as_ptr(), bytes.len(), at, answer.as_mut_ptr()) };
+    let code = unsafe { call(bytes.as_ptr(), bytes.len(), at, answer.as_mut_ptr()) };
     read(code, answer.map(|x| x as u64)).map(|[v, q, lacking]| (v as i64, q as usize, lacking))
+}
+
+pub fn ue(bytes: &[u8], at: usize) -> Field {
+    unsigned(raw::bitstream_ue, bytes, at)
+}
+
+pub fn se(bytes: &[u8], at: usize) -> Field {
+    signed(raw::bitstream_se, bytes, at)
+}
+
+pub fn ue_by_table(bytes: &[u8], at: usize) -> Field {
+    unsigned(raw::bitstream_ue_by_table, bytes, at)
+}
+
+pub fn se_by_table(bytes: &[u8], at: usize) -> Field {
+    signed(raw::bitstream_se_by_table, bytes, at)
 }
 
 pub fn trailing(bytes: &[u8], at: usize) -> Result<usize, u32> {

@@ -10,7 +10,7 @@ use std::time::Duration;
 
 use crate::random::Random;
 use escapes::{ebsp_to_rbsp, rbsp_to_ebsp};
-use reads::{se, u, ue};
+use reads::{se, u, ue, ue_by_table};
 use writes::{encoded, long_codes, short_codes, write_bits, write_se, write_ue};
 
 /// One row, in nanoseconds for a call.
@@ -50,6 +50,7 @@ fn calls() -> Vec<Time> {
         let input = [encoded(&codes)];
         times.push(ue(format!("ue, {kind} codes"), &input));
         times.push(se(format!("se, {kind} codes"), &input));
+        times.push(ue_by_table(format!("ue by table, {kind} codes"), &input));
         times.push(write_ue(format!("write_ue, {kind} codes"), &codes));
         times.push(write_se(format!("write_se, {kind} codes"), &codes));
     }
@@ -60,10 +61,14 @@ fn calls() -> Vec<Time> {
         times.push(ebsp_to_rbsp(format!("ebsp_to_rbsp of 65,536 {kind} bytes"), &bytes));
         times.push(rbsp_to_ebsp(format!("rbsp_to_ebsp of 65,536 {kind} bytes"), &bytes));
     }
-    for (name, bytes) in sets::inputs() {
-        let read = sets::read(&name, &bytes);
-        let written = sets::write(&name, &bytes, &read);
+    for input in sets::inputs() {
+        let read = sets::read(&input.name, &input.one);
+        let written = sets::write(&input.name, &input.one, &read);
         times.push(read);
+        if !input.in_turn.is_empty() {
+            let name = format!("{}s, {} in turn", input.name, input.in_turn.len());
+            times.push(sets::read_in_turn(name, &input.in_turn));
+        }
         times.extend(written);
     }
     times

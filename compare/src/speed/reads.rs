@@ -66,6 +66,11 @@ pub fn ue(name: String, inputs: &[Vec<u8>]) -> Time {
     codes_read(name, inputs, inlined, rust_calls::ue, raw::bitstream_ue)
 }
 
+pub fn ue_by_table(name: String, inputs: &[Vec<u8>]) -> Time {
+    let inlined = |r: &mut BitReader<'_>| r.ue().map_or(0, u64::from);
+    codes_read(name, inputs, inlined, rust_calls::ue, raw::bitstream_ue_by_table)
+}
+
 pub fn se(name: String, inputs: &[Vec<u8>]) -> Time {
     let inlined = |r: &mut BitReader<'_>| r.se().map_or(0, |v| v as u64);
     codes_read(name, inputs, inlined, rust_calls::se, raw::bitstream_se)

@@ -23,7 +23,7 @@ pub struct Row {
 }
 
 pub fn measure() -> Vec<Row> {
-    let mut rows: Vec<Row> = inputs().iter().map(|(name, bytes)| unit(name, bytes)).collect();
+    let mut rows: Vec<Row> = inputs().iter().map(|input| unit(&input.name, &input.one)).collect();
     rows.extend(streams().iter().map(|(name, bytes)| stream(name, bytes)));
     rows.extend(full_table());
     rows.push(empty_list());

@@ -2,12 +2,12 @@
 use mathlib.Core.Path.{_≡_, refl, sym, _∙_}
 use mathlib.Core.Bool.{Bool, true, false, cond, _&&_}
 use mathlib.Core.List.{List}
-use Prim.Native.Nat.{ℕ, _+_, _-_, _/_, _≤_}
+use Prim.Native.Nat.{ℕ, _+_, _-_, _/_, _≤_, _<_}
 use native.Mathlib.Omega.{arith}
 use lib.Dec.{leb, ltb, eqb, lit<}
 use lib.ListN.{length}
-use borrow.Author.Tests.{leb-false, eqb-true, eq-eqb}
-use lib.Count.{leadingZeros}
+use borrow.Author.Tests.{leb-false, lt-leb, eqb-true, eq-eqb}
+use lib.Count.{leadingZeros, leading-top}
 use Rattle.bitstream.specs.Fields.{ueZeros}
 use Rattle.aps.specs.Codec.{Codec, u, _▷_, when, each}
 use Rattle.aps.specs.Elements.{noNumber, noSigned, firsts, seconds}
@@ -20,7 +20,7 @@ use Rattle.aps.proofs.PairLaws.{zipped-there, length-firsts, length-sec
 use Rattle.aps.proofs.ElementLaws.{zeros-mono, flag-law, ueTo-law, ueTo-le, signed-law, noFlag-is, noNumber-is, noSigned-is, noPair-is, noList-is, apart-law, flat-law}
 
 -- an index of 25 filters at most has 5 bits at most
-ceilLog2-le : (n : ℕ) → n ≤ 24 → ceilLog2 (n + 1) ≤ 5
+pub ceilLog2-le : (n : ℕ) → n ≤ 24 → ceilLog2 (n + 1) ≤ 5
 unfolding ceilLog2 ueZeros leadingZeros
 ceilLog2-le n h = go (leb (n + 1) 1) refl
   where
@@ -30,6 +30,14 @@ ceilLog2-le n h = go (leb (n + 1) 1) refl
         let l = leb-false (n + 1) 1 e in
         let f : n + 1 - 1 ≡ n - 1 + 1 = omega arith in
         rw f (omega (arith, zeros-mono (n - 1) 23 (omega arith) (lit< tt)))
+
+-- and one of more than one filter has bits
+pub ceilLog2-some : (n : ℕ) → 0 < n → n ≤ 24 → 0 < ceilLog2 (n + 1)
+unfolding ceilLog2
+ceilLog2-some n h l =
+    let f : n + 1 - 1 ≡ n = omega arith in
+    let t = leading-top 32 n h (omega arith) in
+    rw (lt-leb (n + 1) 1 (omega arith), f) (omega (arith, t .1))
 
 -- a coefficient: at most 15 bits and a sign
 pub coefficient-law : Lawful coefficient 16

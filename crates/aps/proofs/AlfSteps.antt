@@ -7,7 +7,7 @@ use native.Mathlib.Nat.{mul-comm, div-lt-iff-lt-mul, le-div-iff-mul-le}
 use native.Mathlib.Omega.{arith}
 use borrow.Author.Tests.{ltb-true, ltb-false, leb-true, lt-ltb, le-ltb, le-leb, lt-leb}
 use lib.Dec.{leb, ltb, eqb}
-use lib.ListN.{replicate}
+use lib.ListN.{length, replicate, length-replicate}
 use Rattle.bitstream.specs.Outcome.{Outcome, value, refused, mapOutcome, _then_}
 use Rattle.bitstream.specs.Bits.{fieldAt}
 use Rattle.bitstream.specs.Fields.{lacks}
@@ -15,19 +15,22 @@ use Rattle.bitstream.proofs.CodeLaws.{value-refused}
 use Rattle.aps.specs.Codec.{Codec, u, ue, _▷_, via, judged, Inferred, when, each}
 use Rattle.aps.specs.Elements.{flag, ueTo, noFlag, noNumber, noSigned, apart}
 use Rattle.aps.specs.AlfSyntax.{ceilLog2, coefficient, lumaCoefficients, lumaClips}
-use Rattle.aps.specs.AlfSyntax.{ccSyntax, ccCoefficients, toCc, alf, alfSyntax, alfFilters, toAlf}
+use Rattle.aps.specs.AlfSyntax.{lumaSyntax, toLuma, fromLuma, noLuma, chromaSyntax, toChroma, fromChroma, noChroma}
+use Rattle.aps.specs.AlfSyntax.{ccSyntax, ccCoefficients, toCc, fromCc, noCc, alf, alfSyntax, alfFilters, toAlf}
 use Rattle.aps.specs.declared.alf.VvcAlfLuma.{VvcAlfLuma}
 use Rattle.aps.specs.declared.alf.VvcAlfChroma.{VvcAlfChroma}
 use Rattle.aps.specs.declared.alf.VvcAlfCcFilters.{VvcAlfCcFilters}
 use Rattle.aps.specs.declared.alf.VvcAlfData.{VvcAlfData}
 use Rattle.aps.specs.AlfSyntax as Alf
+use Rattle.aps.specs.Inner.{lumaOf, chromaOf, ccOf}
 use Rattle.aps.proofs.Lawful.{Lawful, total}
 use Rattle.aps.proofs.FieldLaws.{u-law}
-use Rattle.aps.proofs.CodecLaws.{judged-law, when-law}
+use Rattle.aps.proofs.CodecLaws.{inside, ▷-halves, ▷-law, judged-law, when-law}
 use Rattle.aps.proofs.EachLaws.{each-law, each-same}
-use Rattle.aps.proofs.ElementLaws.{noNumber-is, noSigned-is, apart-law}
+use Rattle.aps.proofs.ElementLaws.{flag-law, noNumber-is, noSigned-is, apart-law}
 use Rattle.aps.proofs.AlfLaws.{coefficient-law}
-use Rattle.aps.proofs.FieldSteps.{none-lacking, lacks-part, u-here, u-lacking, flag-read, flag-here, flag-lacking, run-lacking, ueTo-read}
+use Rattle.aps.proofs.Bounds.{ueTo-any}
+use Rattle.aps.proofs.FieldSteps.{none-lacking, lacks-part, flag-read, flag-here, flag-lacking, run-lacking, ueTo-read}
 use Rattle.aps.proofs.Steps.{judged-read, when-read, Reading, reading-start, Reading2, reading2-start}
 
 pub ueTo-most : (most : ℕ) (s : List ℕ) (p v q : ℕ) → value v q ≡ (ueTo most) .read s p → v ≤ most
@@ -75,6 +78,13 @@ pub reading2-from : {A B : Type 0} (k : ℕ → Codec (A × B)) (N : ℕ) (v : A
     → a ≡ replicate N v → b ≡ replicate N w → Reading2 k N v w s p 0 a b p
 reading2-from k N v w s p a b e f = rw (e, f) (reading2-start k N v w s p)
 
+-- arrays of what is inferred, and how long they are
+pub filled-length : {A : Type 0} (n : ℕ) (v : A) {a : List A} → a ≡ replicate n v → length a ≡ n
+filled-length n v e = ap length e ∙ length-replicate n v
+
+pub filled-as : {A : Type 0} (v : A) {a : List A} {m n : ℕ} → m ≡ n → a ≡ replicate n v → a ≡ replicate m v
+filled-as v h e = e ∙ ap (λ (n : ℕ). replicate n v) (sym h)
+
 -- an index is sent where there is more than one filter
 abbrev pub index : ℕ → Codec ℕ
 index count-1 = when (ltb 0 count-1) noNumber (judged (λ x. leb x count-1) (u (ceilLog2 (count-1 + 1))))
@@ -87,38 +97,64 @@ pub first-coefficients : (N n : ℕ) → Lawful (apart (each N λ i. when (ltb i
 first-coefficients N n = apart-law (each-law 0 N λ i b. when-law (ltb i n) noSigned-is λ s. coefficient-law)
 
 module _ (count-1 : ℕ) (s : List ℕ) (q bits : ℕ) (width : bits ≡ ceilLog2 (count-1 + 1)) (some : 0 < count-1) where
-  pub index-lacking : lacks s q bits ≡ true → (index count-1) .read s q ≡ refused 1
-  index-lacking l = rw (when-read, lt-ltb 0 count-1 some, judged-read, ← width, u-lacking bits s q l)
+  pub index-lacking : (u bits) .read s q ≡ refused 1 → (index count-1) .read s q ≡ refused 1
+  index-lacking e = rw (when-read, lt-ltb 0 count-1 some, judged-read, ← width, e)
 
-  module _ (x : ℕ) (there : lacks s q bits ≡ false) (field : x ≡ fieldAt s q bits) where
-    pub index-taken : x ≤ count-1 → (index count-1) .read s q ≡ value x (q + bits)
-    index-taken h = rw (when-read, lt-ltb 0 count-1 some, judged-read, ← width, u-here bits s q there, ← field, le-leb x count-1 h)
+  module _ (x r : ℕ) (e : (u bits) .read s q ≡ value x r) where
+    pub index-taken : x ≤ count-1 → (index count-1) .read s q ≡ value x r
+    index-taken h = rw (when-read, lt-ltb 0 count-1 some, judged-read, ← width, e, le-leb x count-1 h)
 
     pub index-refused : count-1 < x → (index count-1) .read s q ≡ refused 2
-    index-refused h = rw (when-read, lt-ltb 0 count-1 some, judged-read, ← width, u-here bits s q there, ← field, lt-leb x count-1 h)
+    index-refused h = rw (when-read, lt-ltb 0 count-1 some, judged-read, ← width, e, lt-leb x count-1 h)
 
--- a flag, a count that is judged, and what they announce
+-- the clip flag, and the count, which is judged
+abbrev pub head : ℕ → Codec (Bool × ℕ)
+head most = flag ▷ λ clip. ueTo most
+
+module _ (most : ℕ) (s : List ℕ) (p : ℕ) where
+  pub head-lacking : lacks s p 1 ≡ true → (head most) .read s p ≡ refused 1
+  unfolding _▷_
+  head-lacking l = rw (flag-lacking s p l)
+
+  pub head-here : lacks s p 1 ≡ false → (clip : Bool) → clip ≡ not (eqb (fieldAt s p 1) 0) → (head most) .read s p ≡ mapOutcome (λ n. (clip, n)) ((ueTo most) .read s (p + 1))
+  unfolding _▷_
+  head-here there clip h = rw (flag-here s p there, ← h) (go ((ueTo most) .read s (p + 1)))
+    where
+      go : (o : Outcome ℕ) → _then_ {B = Bool × ℕ} o (λ n r. value (clip, n) r) ≡ mapOutcome (λ n. (clip, n)) o
+      go (value n r) = refl
+      go (refused e) = refl
+
+  -- the count is at most so much, and the head ends inside the input
+  pub head-most : {clip : Bool} {n q : ℕ} → (head most) .read s p ≡ value (clip, n) q → n ≤ most
+  head-most {clip} {n} {q} e = let (r, f, g) = ▷-halves flag (λ clip. ueTo most) s p (clip, n) q e in ueTo-most most s r n q (sym g)
+
+  pub head-inside : {clip : Bool} {n q : ℕ} → (head most) .read s p ≡ value (clip, n) q → p ≤ length s * 8 → q ≤ length s * 8
+  head-inside {clip} {n} {q} e h = inside (▷-law flag-law λ clip o. ueTo-any most) s p (clip, n) q e h
+
+-- the head, and what it announces
 module _ {A B : Type 0} (to : Bool × (ℕ × A) → B) (from : B → Bool × (ℕ × A)) (test : B → Bool) (d : Inferred (Bool × (ℕ × A))) (most : ℕ) (filters : Bool → ℕ → Codec A) (s : List ℕ) (p : ℕ) where
   abbrev pub headed : Codec B
   headed = via to from test (when true d (flag ▷ λ clip. ueTo most ▷ λ n. filters clip n))
 
-  pub head-lacking : lacks s p 1 ≡ true → headed .read s p ≡ refused 1
+  pub headed-read : headed .read s p ≡ _then_ ((head most) .read s p) (λ h q. mapOutcome (λ x. to (h .0, (h .1, x))) ((filters (h .0) (h .1)) .read s q))
   unfolding via when _▷_
-  head-lacking l = rw (flag-lacking s p l)
+  headed-read = first (flag .read s p)
+    where
+      third : (clip : Bool) (n : ℕ) (o : Outcome A) → _then_ (_then_ (_then_ o (λ x r. value (n, x) r)) (λ x r. value (clip, x) r)) (λ x r. value (to x) r) ≡ mapOutcome (λ x. to (clip, (n, x))) o
+      third clip n (value x r) = refl
+      third clip n (refused e) = refl
 
-  module _ (there : lacks s p 1 ≡ false) where
-    pub head-value : (clip : Bool) (n q : ℕ) → clip ≡ not (eqb (fieldAt s p 1) 0) → (ueTo most) .read s (p + 1) ≡ value n q
-        → headed .read s p ≡ mapOutcome (λ x. to (clip, (n, x))) ((filters clip n) .read s q)
-    unfolding via when _▷_
-    head-value clip n q h e = rw (flag-here s p there, ← h, e) (go ((filters clip n) .read s q))
-      where
-        go : (o : Outcome A) → _then_ (_then_ (_then_ o (λ x r. value (n, x) r)) (λ x r. value (clip, x) r)) (λ x r. value (to x) r) ≡ mapOutcome (λ x. to (clip, (n, x))) o
-        go (value x r) = refl
-        go (refused e) = refl
+      second : (clip : Bool) (o : Outcome ℕ)
+          → _then_ (_then_ (_then_ o (λ n q. _then_ ((filters clip n) .read s q) (λ x r. value (n, x) r))) (λ x r. value (clip, x) r)) (λ x r. value (to x) r)
+          ≡ _then_ (_then_ {B = Bool × ℕ} o (λ n q. value (clip, n) q)) (λ h q. mapOutcome (λ x. to (h .0, (h .1, x))) ((filters (h .0) (h .1)) .read s q))
+      second clip (value n q) = third clip n ((filters clip n) .read s q)
+      second clip (refused e) = refl
 
-    pub head-refused : (e : ℕ) → (ueTo most) .read s (p + 1) ≡ refused e → headed .read s p ≡ refused e
-    unfolding via when _▷_
-    head-refused e h = rw (flag-here s p there, h)
+      first : (o : Outcome Bool)
+          → _then_ (_then_ o (λ clip q. _then_ (_then_ ((ueTo most) .read s q) (λ n q. _then_ ((filters clip n) .read s q) (λ x r. value (n, x) r))) (λ x r. value (clip, x) r))) (λ x r. value (to x) r)
+          ≡ _then_ (_then_ {B = Bool × ℕ} o (λ clip q. _then_ ((ueTo most) .read s q) (λ n q. value (clip, n) q))) (λ h q. mapOutcome (λ x. to (h .0, (h .1, x))) ((filters (h .0) (h .1)) .read s q))
+      first (value clip q) = second clip ((ueTo most) .read s q)
+      first (refused e) = refl
 
 module _ (s : List ℕ) (p : ℕ) where
   pub cc-read : (Alf.cc true) .read s p ≡ _then_ ((ueTo 3) .read s p) (λ n q. mapOutcome (λ x. toCc (n, x)) ((ccCoefficients n) .read s q))
@@ -136,10 +172,26 @@ module _ (s : List ℕ) (p : ℕ) where
       first (refused e) = refl
 
 -- a part that is not signalled
-pub via-absent : {A B : Type 0} (to : A → B) (from : B → A) (test : B → Bool) (d : Inferred A) (c : Codec A) (s : List ℕ) (p : ℕ)
+via-absent : {A B : Type 0} (to : A → B) (from : B → A) (test : B → Bool) (d : Inferred A) (c : Codec A) (s : List ℕ) (p : ℕ)
     → (via to from test (when false d c)) .read s p ≡ value (to (d .default)) p
 unfolding via when
 via-absent to from test d c s p = refl
+
+module _ (s : List ℕ) (p : ℕ) where
+  pub luma-absent : (idx abs : List ℕ) (sign : List Bool) (clips : List ℕ) → idx ≡ replicate 25 0 → abs ≡ replicate 300 0 → sign ≡ replicate 300 false → clips ≡ replicate 300 0
+      → value (lumaOf false 0 idx abs sign clips) p ≡ (Alf.luma false) .read s p
+  unfolding Alf.luma
+  luma-absent idx abs sign clips e f g h = rw (e, f, g, h) (sym (via-absent toLuma fromLuma (λ d. true) noLuma lumaSyntax s p))
+
+  pub chroma-absent : (abs : List ℕ) (sign : List Bool) (clips : List ℕ) → abs ≡ replicate 48 0 → sign ≡ replicate 48 false → clips ≡ replicate 48 0
+      → value (chromaOf false 0 abs sign clips) p ≡ (Alf.chroma false) .read s p
+  unfolding Alf.chroma toChroma
+  chroma-absent abs sign clips e f g =
+      rw (e, f, g) (sym (via-absent toChroma fromChroma (λ d. eqb (length (d .«coeff_abs»)) (length (d .«coeff_sign»))) noChroma chromaSyntax s p))
+
+  pub cc-absent : (abs : List ℕ) (sign : List Bool) → abs ≡ replicate 28 0 → sign ≡ replicate 28 false → value (ccOf 0 abs sign) p ≡ (Alf.cc false) .read s p
+  unfolding Alf.cc
+  cc-absent abs sign e f = rw (e, f) (sym (via-absent toCc fromCc (λ d. true) noCc ccSyntax s p))
 
 -- bits are lacking for the four flags, or for the first alone
 module _ (s : List ℕ) (p : ℕ) where

@@ -14,7 +14,7 @@ use Rattle.aps.specs.Codec.{Codec, u, _▷_, via, when, eachFrom, each}
 use Rattle.aps.specs.Elements.{noNumber, noSigned, firsts, seconds, zipped, apart, joined, rowsOf, flat}
 use Rattle.aps.specs.AlfSyntax.{coefficient, alternative, alternatives, chromaArrays, toChroma}
 use Rattle.aps.specs.declared.alf.VvcAlfChroma.{VvcAlfChroma}
-use Rattle.aps.specs.Inner.{outcomeStop, after}
+use Rattle.aps.specs.Inner.{outcomeStop, after, chromaOf}
 use Rattle.aps.specs.declared.fields.Stop.{Stop}
 use Rattle.aps.specs.declared.fields.Stop.the-variants as Stop
 use Rattle.aps.proofs.EachLaws.{each-same}
@@ -130,23 +130,16 @@ module _ (clip : Bool) (n : ℕ) (s : List ℕ) (p : ℕ) where
             let same = R .size-abs ∙ sym (R .size-sign) in
             rw (firsts-zipped l m e, seconds-zipped l m e, f, g, firsts-zipped abs sign same, seconds-zipped abs sign same)
 
-abbrev pub recordOf : Bool → ℕ → List ℕ × (List Bool × List ℕ) → VvcAlfChroma
-recordOf clip n x =
-    record {
-      «alf_chroma_clip_flag» = clip;
-      «alf_chroma_num_alt_filters_minus1» = n;
-      «coeff_abs» = x .0;
-      «coeff_sign» = x .1 .0;
-      «clip_idx» = x .1 .1;
-    }
-
 -- the record of the three arrays
 pub chroma-of-arrays : (clip : Bool) (n : ℕ) (to : Stop) (abs : List ℕ) (sign : List Bool) (clips : List ℕ) (o : Outcome (List (ℕ × Bool) × List ℕ))
     → outcomeStop {A = List ℕ × (List Bool × List ℕ)} to (abs, (sign, clips)) ≡ mapOutcome chromaArrays o
-    → outcomeStop to (recordOf clip n (abs, (sign, clips))) ≡ mapOutcome (λ x. toChroma (clip, (n, x))) o
+    → outcomeStop to (chromaOf clip n abs sign clips) ≡ mapOutcome (λ x. toChroma (clip, (n, x))) o
 unfolding toChroma
-chroma-of-arrays clip n to abs sign clips o e = map-stop (recordOf clip n) to (abs, (sign, clips)) e ∙ go o
+chroma-of-arrays clip n to abs sign clips o e = map-stop made to (abs, (sign, clips)) e ∙ go o
   where
-    go : (o : Outcome (List (ℕ × Bool) × List ℕ)) → mapOutcome (recordOf clip n) (mapOutcome chromaArrays o) ≡ mapOutcome (λ x. toChroma (clip, (n, x))) o
+    made : List ℕ × (List Bool × List ℕ) → VvcAlfChroma
+    made x = chromaOf clip n (x .0) (x .1 .0) (x .1 .1)
+
+    go : (o : Outcome (List (ℕ × Bool) × List ℕ)) → mapOutcome made (mapOutcome chromaArrays o) ≡ mapOutcome (λ x. toChroma (clip, (n, x))) o
     go (value x q) = refl
     go (refused m) = refl

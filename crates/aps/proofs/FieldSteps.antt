@@ -117,7 +117,7 @@ unfolding whole
 whole-here (value v q) b e = rw e
 whole-here (refused n) b e = refl
 
-se-of-ue : (s : List ℕ) (p : ℕ) {o : Outcome ℕ} → ue .read s p ≡ o → se .read s p ≡ mapOutcome seValue o
+pub se-of-ue : (s : List ℕ) (p : ℕ) {o : Outcome ℕ} → ue .read s p ≡ o → se .read s p ≡ mapOutcome seValue o
 unfolding se via
 se-of-ue s p {o} e = rw e (go o)
   where

@@ -1,7 +1,7 @@
 -- i32 and i64 values as the numbers that they are.
 use mathlib.Core.Path.{_≡_, refl, sym, ap, _∙_}
-use mathlib.Core.Bool.{Bool, true, false}
-use Prim.Native.Nat.{zero, suc}
+use mathlib.Core.Bool.{Bool, true, false, cond}
+use Prim.Native.Nat.{ℕ, zero, suc, _+_, _/_, _%_, _≤_, _<_}
 use native.Mathlib.Omega.{arith}
 use borrow.Author.Tests.{ltb-false, eq-eqb, ne-eqb}
 use lib.Dec.{eqb}
@@ -10,6 +10,7 @@ use lib.Signed.{ltZ, natAbs-le}
 use mir.Syntax.{w32, w64}
 use mir.Val.{toZ, ofZ, SFits}
 use mir.Facts.{toZ-ofZ}
+use Rattle.bitstream.specs.Fields.{seValue}
 use Rattle.bitstream.proofs.Signed.{wide-is}
 use Rattle.aps.specs.ScalingSyntax.{eqZ}
 use Rattle.aps.proofs.CodecLaws.{never-true}
@@ -32,6 +33,15 @@ neg-abs : (z : ℤ) → natAbs (negℤ z) ≡ natAbs z
 neg-abs (pos zero) = refl
 neg-abs (pos (suc n)) = refl
 neg-abs (negsuc n) = refl
+
+-- the se that a short ue stands for
+pub se-abs : (k : ℕ) → k < 1000 → natAbs (seValue k) ≤ 500
+unfolding seValue
+se-abs k h = go (eqb (k % 2) 1)
+  where
+    go : (b : Bool) → natAbs (cond b (pos ((k + 1) / 2)) (negℤ (pos (k / 2)))) ≤ 500
+    go true = omega arith
+    go false = omega (arith, neg-abs (pos (k / 2)))
 
 -- `v as i64 - w as i64` of two i32 values is their difference
 module _ (v w : ℤ) (f : SFits w32 v) (g : SFits w32 w) where

@@ -19,9 +19,13 @@ pub mod Gives
 pub mod RowLaws
 pub mod SignedLaws
 pub mod FieldSteps
+pub mod WindowSteps
+pub mod TableSteps
 pub mod Steps
 pub mod StopLaws
+pub mod CoefficientSteps
 pub mod AlfSteps
+pub mod ClipSteps
 pub mod AlternativeSteps
 pub mod LmcsSteps
 pub mod ScalingKeep

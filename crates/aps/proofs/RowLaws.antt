@@ -3,7 +3,7 @@ use mathlib.Core.Path.{_≡_, refl, sym, ap, _∙_}
 use mathlib.Core.List.{List, [], _∷_, _++_}
 use Prim.Native.Nat.{ℕ, zero, suc, _+_, _*_, _≤_, _<_}
 use native.Mathlib.Nat.{add-zero, zero-add, add-suc, suc-add, mul-zero, mul-suc, suc-mul}
-use native.Mathlib.Numerals.{add-one}
+use native.Mathlib.Numerals.{add-one, unary-clauses}
 use native.Mathlib.Omega.{arith}
 use lib.ListN.{length, getD, take, drop, set, length-set, length-drop}
 use lib.Seq.{sets, sets-eq, take-suc, take-set-le, drop-set-add, length-take-le, take-all, take-at, drop-at}
@@ -14,6 +14,10 @@ module _ {A : Type 0} where
   sets-snoc : (xs l : List A) (o : ℕ) (x : A) → sets l o (xs ++ x ∷ []) ≡ set (sets l o xs) (o + length xs) x
   sets-snoc [] l o x = rw (add-zero o)
   sets-snoc (y ∷ xs) l o x = rw (add-suc o (length xs), ← suc-add o (length xs)) (sets-snoc xs (set l o y) (suc o) x)
+
+  -- six stores are one of a row of six
+  pub sets-six : (l : List A) (i : ℕ) (a b c d e f : A) → set (set (set (set (set (set l i a) (i + 1) b) (i + 2) c) (i + 3) d) (i + 4) e) (i + 5) f ≡ sets l i (a ∷ b ∷ c ∷ d ∷ e ∷ f ∷ [])
+  sets-six l i a b c d e f = simp unary-clauses
 
   -- one entry more of a row
   pub sets-more : (l l′ : List A) (o : ℕ) (xs : List A) (j : ℕ) (d : A) → j < length xs → l′ ≡ sets l o (take j xs) → set l′ (o + j) (getD xs j d) ≡ sets l o (take (j + 1) xs)

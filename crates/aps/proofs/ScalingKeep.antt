@@ -11,7 +11,7 @@ use lib.ListN.{length, getD, take, drop, set, replicate}
 use lib.Seq.{sets, drop-cons, drop-set-lt, drop-set-add}
 use Rattle.bitstream.specs.Outcome.{Outcome, value, refused, mapOutcome}
 use Rattle.aps.specs.Elements.{joined}
-use Rattle.aps.specs.Inner.{stored}
+use Rattle.aps.specs.Inner.{stored, scalingOf}
 use Rattle.aps.specs.ScalingSyntax.{Entry, idCoded, idAt, scalingSyntax, filled, keep}
 use Rattle.aps.specs.declared.scaling_list.VvcScalingListData.{VvcScalingListData}
 use Rattle.aps.proofs.CodecLaws.{when-law, inside}
@@ -116,13 +116,15 @@ unmade f (value a r) n e = let z : _≡_ {A = ℕ} 0 1 = cc in absurd (omega ari
 unmade f (refused m) n e = cc
 
 module _ (chroma : Bool) (s : List ℕ) (p : ℕ) where
-  pub keeping-start : p ≤ length s * 8 → Keeping chroma s p 0 (replicate 28 false) (replicate 28 false) (replicate 28 0) (replicate 14 (pos 0)) (replicate 1792 (pos 0)) p
+  pub keeping-start : (copy pred : List Bool) (delta : List ℕ) (dc list : List ℤ) → p ≤ length s * 8
+      → copy ≡ replicate 28 false → pred ≡ replicate 28 false → delta ≡ replicate 28 0 → dc ≡ replicate 14 (pos 0) → list ≡ replicate 1792 (pos 0)
+      → Keeping chroma s p 0 copy pred delta dc list p
   unfolding filled
-  keeping-start l =
+  keeping-start copy pred delta dc list l a b c d e =
       record {
         es = replicate 28 blank;
         reading = reading-start (idAt chroma) 28 blank s p;
-        kept = record { copies = refl; preds = refl; deltas = refl; dcs = refl; lists = refl };
+        kept = record { copies = sym a; preds = sym b; deltas = sym c; dcs = sym d; lists = sym e };
         near = l;
         count = omega arith;
       }
@@ -163,9 +165,7 @@ module _ (chroma : Bool) (s : List ℕ) (p : ℕ) where
     keeping-refused n h e =
         rw (reading-refused (idAt chroma) 28 blank s p i (K .es) q (K .reading) n h (unmade (stored list i) ((idAt chroma i) .read s q) n e))
 
-    pub keeping-done : 28 ≤ i
-        → value (record { «copy_mode_flag» = copy; «pred_mode_flag» = pred; «pred_id_delta» = delta; «dc_coef» = dc; «scaling_list» = list }) q
-        ≡ mapOutcome keep ((scalingSyntax chroma) .read s p)
+    pub keeping-done : 28 ≤ i → value (scalingOf copy pred delta dc list) q ≡ mapOutcome keep ((scalingSyntax chroma) .read s p)
     unfolding scalingSyntax keep
     keeping-done h =
         let k = K .kept in

@@ -6,14 +6,16 @@ use Prim.Native.Nat.{ℕ, zero, suc, _+_, _-_, _*_, _%_, _≤_, _<_}
 use native.Mathlib.Nat.{add-zero, add-suc, sub-zero}
 use native.Mathlib.Numerals.{add-one}
 use native.Mathlib.Omega.{arith}
-use borrow.Author.Tests.{leb-true}
+use borrow.Author.Tests.{leb-true, le-leb}
 use lib.Dec.{ltb}
 use lib.IntN.{ℤ, pos, negsuc, natAbs, _+ℤ_}
 use lib.Signed.{leZ, ltZ}
 use lib.ListN.{length, set}
 use lib.Seq.{sets}
 use Rattle.bitstream.specs.Outcome.{Outcome, value, refused, mapOutcome, _then_}
-use Rattle.aps.specs.Codec.{Codec, _▷_, via, judged, when, eachFrom}
+use Rattle.bitstream.specs.Fields.{seValue, seCode}
+use Rattle.bitstream.proofs.Signed.{code-se}
+use Rattle.aps.specs.Codec.{Codec, ue, _▷_, via, judged, when, eachFrom}
 use Rattle.aps.specs.Elements.{flag, se, seIn, noFlag, noPair}
 use Rattle.aps.specs.Inner.{storedList, stored, outcomeStop}
 use Rattle.aps.specs.ScalingSyntax.{skipped, entries, maxIdDelta, idCoded, just, step, stepAt, sums, cons, Entry, coefficients, dcAt, deltaSent, deltaAt, noEntries, noEntry, entrySyntax, idAt}
@@ -74,21 +76,38 @@ se8-small s p = rw (seIn-read (negsuc 127) (pos 127) s p) (first (se .read s p))
     first (value z q) = judge z q (leZ (negsuc 127) z) (leZ z (pos 127)) refl refl
     first (refused e) = tt
 
+-- an se whose ue is at most 254 is in -127..127
+code-in : (z : ℤ) → seCode z ≤ 254 → (leZ (negsuc 127) z && leZ z (pos 127)) ≡ true
+unfolding seCode
+code-in (pos zero) h = refl
+code-in (pos (suc n)) h = le-leb (suc n) 127 (omega arith)
+code-in (negsuc n) h = rw (le-leb n 127 (omega arith))
+
+pub se8-of-ue : (s : List ℕ) (p : ℕ) {k q : ℕ} {z : ℤ} → ue .read s p ≡ value k q → k ≤ 254 → z ≡ seValue k → se8 .read s p ≡ value z q
+unfolding se via
+se8-of-ue s p {k} e h f =
+    let l : seCode (seValue k) ≤ 254 = rw (code-se k) h in
+    rw (seIn-read (negsuc 127) (pos 127) s p, e, code-in (seValue k) l, f)
+
 -- ---- one step
+
+module _ (prev : ℤ) (s : List ℕ) (p : ℕ) where
+  pub step-refused : {n : ℕ} → se8 .read s p ≡ refused n → (step prev) .read s p ≡ refused n
+  unfolding step via
+  step-refused e = rw e
+
+  pub step-value : {z : ℤ} {q : ℕ} → se8 .read s p ≡ value z q → (step prev) .read s p ≡ value (z +ℤ prev) q
+  unfolding step via
+  step-value e = rw e
 
 module _ (id i : ℕ) (prev : ℤ) (s : List ℕ) (p : ℕ) where
   pub step-skip : skipped id i ≡ true → (stepAt id i prev) .read s p ≡ value prev p
   unfolding when
   step-skip k = rw k
 
-  module _ (k : skipped id i ≡ false) where
-    pub step-refused : {n : ℕ} → se8 .read s p ≡ refused n → (stepAt id i prev) .read s p ≡ refused n
-    unfolding when step via
-    step-refused e = rw (k, e)
-
-    pub step-value : {z : ℤ} {q : ℕ} → se8 .read s p ≡ value z q → (stepAt id i prev) .read s p ≡ value (z +ℤ prev) q
-    unfolding when step via
-    step-value e = rw (k, e)
+  pub step-sent : skipped id i ≡ false → (stepAt id i prev) .read s p ≡ (step prev) .read s p
+  unfolding when
+  step-sent k = rw k
 
   pub step-small : Gives (λ v. natAbs v ≤ natAbs prev + 128) ((stepAt id i prev) .read s p)
   unfolding when step via

@@ -1,5 +1,10 @@
 // adaptation_parameter_set_rbsp(), H.266 7.3.2.6. After src/h266/aps.rs.
+use crate::alf::AlfRead;
+use crate::alf::VvcAlfCcFilters;
+use crate::alf::VvcAlfChroma;
 use crate::alf::VvcAlfData;
+use crate::alf::VvcAlfLuma;
+use crate::alf::no_alf;
 use crate::alf::parse_alf_data;
 use crate::alf::zero_alf;
 use crate::fields::Stop;
@@ -19,8 +24,9 @@ use bitstream::bit_reader::Trailing;
 ghost use mathlib.Core.Path.{_≡_};
 ghost use mathlib.Core.Bool.{false};
 ghost use Prim.Native.Nat.{_*_, _≤_};
-ghost use lib.ListN.{length};
-ghost use Rattle.aps.specs.Inner.{AnswersLmcs, Headed, withExtension, finished};
+ghost use lib.IntN.{pos};
+ghost use lib.ListN.{length, replicate};
+ghost use Rattle.aps.specs.Inner.{noAlf, AnswersAlf, AnswersLmcs, AnswersScaling, Headed, withExtension, finished};
 ghost use Rattle.aps.specs.Rbsp.{closed, readRbsp, parseApsRbsp};
 ghost use Rattle.aps.specs.ApsSyntax.{emptySet, zeroLmcs, numberOf};
 ghost use Rattle.aps.specs.Reading.{outcomeRead, outcomeAps, setGiven};
@@ -238,75 +244,361 @@ fn lmcs_set(bytes: &[u8], id: u8, chroma: bool) -> ApsReading
     }
 }
 
+// The answer for an ALF set but for the arrays; a refusal's set is the empty set.
+struct AlfAnswer {
+    outcome: ApsOutcome,
+    id: u8,
+    chroma: bool,
+    extension: bool,
+    read: AlfRead,
+}
+
+// A refusal leaves the arrays 0.
+fn refuse_alf(
+    why: Refusal,
+    luma_idx: &mut [u8; 25],
+    luma_abs: &mut [u32; 300],
+    luma_sign: &mut [bool; 300],
+    luma_clip: &mut [u8; 300],
+    chroma_abs: &mut [u32; 48],
+    chroma_sign: &mut [bool; 48],
+    chroma_clip: &mut [u8; 48],
+    cb_abs: &mut [u8; 28],
+    cb_sign: &mut [bool; 28],
+    cr_abs: &mut [u8; 28],
+    cr_sign: &mut [bool; 28],
+) -> AlfAnswer
+    ensures answer { λ r. ⌜ (r .outcome ≡ ApsOutcome.Refused why) × (r .id ≡ 0) × (r .chroma ≡ false) × (r .extension ≡ false)
+        × (r .read ≡ noAlf why) ⌝ }
+    ensures arrays { λ r. ⌜ (now («luma_idx» .exit) ≡ replicate 25 0) × (now («luma_abs» .exit) ≡ replicate 300 0)
+        × (now («luma_sign» .exit) ≡ replicate 300 false) × (now («luma_clip» .exit) ≡ replicate 300 0)
+        × (now («chroma_abs» .exit) ≡ replicate 48 0) × (now («chroma_sign» .exit) ≡ replicate 48 false)
+        × (now («chroma_clip» .exit) ≡ replicate 48 0)
+        × (now («cb_abs» .exit) ≡ replicate 28 0) × (now («cb_sign» .exit) ≡ replicate 28 false)
+        × (now («cr_abs» .exit) ≡ replicate 28 0) × (now («cr_sign» .exit) ≡ replicate 28 false) ⌝ }
+{
+    *luma_idx = [0; 25];
+    *luma_abs = [0; 300];
+    *luma_sign = [false; 300];
+    *luma_clip = [0; 300];
+    *chroma_abs = [0; 48];
+    *chroma_sign = [false; 48];
+    *chroma_clip = [0; 48];
+    *cb_abs = [0; 28];
+    *cb_sign = [false; 28];
+    *cr_abs = [0; 28];
+    *cr_sign = [false; 28];
+    AlfAnswer {
+        outcome: ApsOutcome::Refused(why),
+        id: 0,
+        chroma: false,
+        extension: false,
+        read: no_alf(why),
+    }
+}
+
 // An ALF set: its id is judged after its payload.
+fn alf_answer(
+    bytes: &[u8],
+    id: u8,
+    chroma: bool,
+    luma_idx: &mut [u8; 25],
+    luma_abs: &mut [u32; 300],
+    luma_sign: &mut [bool; 300],
+    luma_clip: &mut [u8; 300],
+    chroma_abs: &mut [u32; 48],
+    chroma_sign: &mut [bool; 48],
+    chroma_clip: &mut [u8; 48],
+    cb_abs: &mut [u8; 28],
+    cb_sign: &mut [bool; 28],
+    cr_abs: &mut [u8; 28],
+    cr_sign: &mut [bool; 28],
+) -> AlfAnswer
+    requires { ⌜ (length (now bytes) ≤ 65536) × Headed (now bytes) 0 id chroma
+        × (now «luma_idx» ≡ replicate 25 0) × (now «luma_abs» ≡ replicate 300 0) × (now «luma_sign» ≡ replicate 300 false)
+        × (now «luma_clip» ≡ replicate 300 0)
+        × (now «chroma_abs» ≡ replicate 48 0) × (now «chroma_sign» ≡ replicate 48 false) × (now «chroma_clip» ≡ replicate 48 0)
+        × (now «cb_abs» ≡ replicate 28 0) × (now «cb_sign» ≡ replicate 28 false)
+        × (now «cr_abs» ≡ replicate 28 0) × (now «cr_sign» ≡ replicate 28 false) ⌝ }
+    ensures { λ r. ⌜ AnswersAlf r (now (bytes .entry))
+        (now («luma_idx» .exit)) (now («luma_abs» .exit)) (now («luma_sign» .exit)) (now («luma_clip» .exit))
+        (now («chroma_abs» .exit)) (now («chroma_sign» .exit)) (now («chroma_clip» .exit))
+        (now («cb_abs» .exit)) (now («cb_sign» .exit)) (now («cr_abs» .exit)) (now («cr_sign» .exit)) ⌝ }
+{
+    let read = parse_alf_data(
+        bytes,
+        9,
+        chroma,
+        luma_idx,
+        luma_abs,
+        luma_sign,
+        luma_clip,
+        chroma_abs,
+        chroma_sign,
+        chroma_clip,
+        cb_abs,
+        cb_sign,
+        cr_abs,
+        cr_sign,
+    );
+    let stop = read.stop;
+    match stop {
+        Stop::End(q) => {
+            if Alf::MAX_ID < id {
+                return refuse_alf(
+                    Refusal::InvalidData,
+                    luma_idx,
+                    luma_abs,
+                    luma_sign,
+                    luma_clip,
+                    chroma_abs,
+                    chroma_sign,
+                    chroma_clip,
+                    cb_abs,
+                    cb_sign,
+                    cr_abs,
+                    cr_sign,
+                );
+            }
+            let ending = read_ending(bytes, q);
+            let end = ending.outcome;
+            match end {
+                ApsOutcome::Read(at) => AlfAnswer {
+                    outcome: ApsOutcome::Read(at),
+                    id,
+                    chroma,
+                    extension: ending.extension,
+                    read,
+                },
+                ApsOutcome::Refused(why) => refuse_alf(
+                    why,
+                    luma_idx,
+                    luma_abs,
+                    luma_sign,
+                    luma_clip,
+                    chroma_abs,
+                    chroma_sign,
+                    chroma_clip,
+                    cb_abs,
+                    cb_sign,
+                    cr_abs,
+                    cr_sign,
+                ),
+            }
+        }
+        Stop::Refused(first) => refuse_alf(
+            first,
+            luma_idx,
+            luma_abs,
+            luma_sign,
+            luma_clip,
+            chroma_abs,
+            chroma_sign,
+            chroma_clip,
+            cb_abs,
+            cb_sign,
+            cr_abs,
+            cr_sign,
+        ),
+    }
+}
+
+// The set is put together once, whatever was answered.
 fn alf_set(bytes: &[u8], id: u8, chroma: bool) -> ApsReading
     requires { ⌜ (length (now bytes) ≤ 65536) × Headed (now bytes) 0 id chroma ⌝ }
     ensures answer { λ r. ⌜ outcomeAps r ≡ readRbsp (now (bytes .entry)) ⌝ }
     ensures set { λ r. ⌜ r .set ≡ setGiven (readRbsp (now (bytes .entry))) ⌝ }
 {
-    let read = parse_alf_data(bytes, 9, chroma);
-    let stop = read.stop;
-    let alf = read.alf;
-    match stop {
-        Stop::End(q) => {
-            if Alf::MAX_ID < id {
-                return refuse(Refusal::InvalidData);
-            }
-            let ending = read_ending(bytes, q);
-            let end = ending.outcome;
-            match end {
-                ApsOutcome::Read(at) => ApsReading {
-                    outcome: ApsOutcome::Read(at),
-                    set: VvcAps {
-                        kind: ApsKind::Alf,
-                        aps_adaptation_parameter_set_id: id,
-                        aps_chroma_present_flag: chroma,
-                        aps_extension_flag: ending.extension,
-                        alf,
-                        lmcs: zero_lmcs(),
-                        scaling: zero_scaling(),
-                    },
+    let mut luma_idx = [0u8; 25];
+    let mut luma_abs = [0u32; 300];
+    let mut luma_sign = [false; 300];
+    let mut luma_clip = [0u8; 300];
+    let mut chroma_abs = [0u32; 48];
+    let mut chroma_sign = [false; 48];
+    let mut chroma_clip = [0u8; 48];
+    let mut cb_abs = [0u8; 28];
+    let mut cb_sign = [false; 28];
+    let mut cr_abs = [0u8; 28];
+    let mut cr_sign = [false; 28];
+    let answer = alf_answer(
+        bytes,
+        id,
+        chroma,
+        &mut luma_idx,
+        &mut luma_abs,
+        &mut luma_sign,
+        &mut luma_clip,
+        &mut chroma_abs,
+        &mut chroma_sign,
+        &mut chroma_clip,
+        &mut cb_abs,
+        &mut cb_sign,
+        &mut cr_abs,
+        &mut cr_sign,
+    );
+    let outcome = answer.outcome;
+    let read = answer.read;
+    ApsReading {
+        outcome,
+        set: VvcAps {
+            kind: ApsKind::Alf,
+            aps_adaptation_parameter_set_id: answer.id,
+            aps_chroma_present_flag: answer.chroma,
+            aps_extension_flag: answer.extension,
+            alf: VvcAlfData {
+                alf_luma_filter_signal_flag: read.luma,
+                alf_chroma_filter_signal_flag: read.chroma,
+                alf_cc_cb_filter_signal_flag: read.cb,
+                alf_cc_cr_filter_signal_flag: read.cr,
+                luma: VvcAlfLuma {
+                    alf_luma_num_filters_signalled_minus1: read.luma_count_minus1,
+                    coeff_abs: luma_abs,
+                    alf_luma_clip_flag: read.luma_clip,
+                    alf_luma_coeff_delta_idx: luma_idx,
+                    coeff_sign: luma_sign,
+                    clip_idx: luma_clip,
                 },
-                ApsOutcome::Refused(why) => refuse(why),
-            }
-        }
-        Stop::Refused(first) => refuse(first),
+                chroma: VvcAlfChroma {
+                    alf_chroma_clip_flag: read.chroma_clip,
+                    alf_chroma_num_alt_filters_minus1: read.chroma_count_minus1,
+                    coeff_abs: chroma_abs,
+                    coeff_sign: chroma_sign,
+                    clip_idx: chroma_clip,
+                },
+                cc_cb: VvcAlfCcFilters {
+                    filters_signalled_minus1: read.cb_count_minus1,
+                    mapped_coeff_abs: cb_abs,
+                    coeff_sign: cb_sign,
+                },
+                cc_cr: VvcAlfCcFilters {
+                    filters_signalled_minus1: read.cr_count_minus1,
+                    mapped_coeff_abs: cr_abs,
+                    coeff_sign: cr_sign,
+                },
+            },
+            lmcs: zero_lmcs(),
+            scaling: zero_scaling(),
+        },
+    }
+}
+
+// The answer for a scaling set but for the arrays; a refusal's set is the empty set.
+struct ScalingAnswer {
+    outcome: ApsOutcome,
+    kind: ApsKind,
+    id: u8,
+    chroma: bool,
+    extension: bool,
+}
+
+// A refusal leaves the arrays 0.
+fn refuse_scaling(
+    why: Refusal,
+    copy: &mut [bool; 28],
+    pred: &mut [bool; 28],
+    delta: &mut [u32; 28],
+    dc: &mut [i32; 14],
+    list: &mut [i32; 1792],
+) -> ScalingAnswer
+    ensures answer { λ r. ⌜ (r .outcome ≡ ApsOutcome.Refused why) × (r .kind ≡ ApsKind.Alf) × (r .id ≡ 0) × (r .chroma ≡ false)
+        × (r .extension ≡ false) ⌝ }
+    ensures arrays { λ r. ⌜ (now (copy .exit) ≡ replicate 28 false) × (now (pred .exit) ≡ replicate 28 false) × (now (delta .exit) ≡ replicate 28 0)
+        × (now (dc .exit) ≡ replicate 14 (pos 0)) × (now (list .exit) ≡ replicate 1792 (pos 0)) ⌝ }
+{
+    *copy = [false; 28];
+    *pred = [false; 28];
+    *delta = [0; 28];
+    *dc = [0; 14];
+    *list = [0; 1792];
+    ScalingAnswer {
+        outcome: ApsOutcome::Refused(why),
+        kind: ApsKind::Alf,
+        id: 0,
+        chroma: false,
+        extension: false,
     }
 }
 
 // A scaling set: its id is judged after its payload.
+fn scaling_answer(
+    bytes: &[u8],
+    id: u8,
+    chroma: bool,
+    copy: &mut [bool; 28],
+    pred: &mut [bool; 28],
+    delta: &mut [u32; 28],
+    dc: &mut [i32; 14],
+    list: &mut [i32; 1792],
+) -> ScalingAnswer
+    requires { ⌜ (length (now bytes) ≤ 65536) × Headed (now bytes) 2 id chroma
+        × (now copy ≡ replicate 28 false) × (now pred ≡ replicate 28 false) × (now delta ≡ replicate 28 0)
+        × (now dc ≡ replicate 14 (pos 0)) × (now list ≡ replicate 1792 (pos 0)) ⌝ }
+    ensures { λ r. ⌜ AnswersScaling r (now (bytes .entry))
+        (now (copy .exit)) (now (pred .exit)) (now (delta .exit)) (now (dc .exit)) (now (list .exit)) ⌝ }
+{
+    let stop = parse_scaling_list_data(bytes, 9, chroma, copy, pred, delta, dc, list);
+    match stop {
+        Stop::End(q) => {
+            if Scaling::MAX_ID < id {
+                return refuse_scaling(Refusal::InvalidData, copy, pred, delta, dc, list);
+            }
+            let ending = read_ending(bytes, q);
+            let end = ending.outcome;
+            match end {
+                ApsOutcome::Read(at) => ScalingAnswer {
+                    outcome: ApsOutcome::Read(at),
+                    kind: ApsKind::Scaling,
+                    id,
+                    chroma,
+                    extension: ending.extension,
+                },
+                ApsOutcome::Refused(why) => refuse_scaling(why, copy, pred, delta, dc, list),
+            }
+        }
+        Stop::Refused(why) => refuse_scaling(why, copy, pred, delta, dc, list),
+    }
+}
+
+// The set is put together once, whatever was answered.
 fn scaling_set(bytes: &[u8], id: u8, chroma: bool) -> ApsReading
     requires { ⌜ (length (now bytes) ≤ 65536) × Headed (now bytes) 2 id chroma ⌝ }
     ensures answer { λ r. ⌜ outcomeAps r ≡ readRbsp (now (bytes .entry)) ⌝ }
     ensures set { λ r. ⌜ r .set ≡ setGiven (readRbsp (now (bytes .entry))) ⌝ }
 {
-    let read = parse_scaling_list_data(bytes, 9, chroma);
-    let stop = read.stop;
-    let scaling = read.scaling;
-    match stop {
-        Stop::End(q) => {
-            if Scaling::MAX_ID < id {
-                return refuse(Refusal::InvalidData);
-            }
-            let ending = read_ending(bytes, q);
-            let end = ending.outcome;
-            match end {
-                ApsOutcome::Read(at) => ApsReading {
-                    outcome: ApsOutcome::Read(at),
-                    set: VvcAps {
-                        kind: ApsKind::Scaling,
-                        aps_adaptation_parameter_set_id: id,
-                        aps_chroma_present_flag: chroma,
-                        aps_extension_flag: ending.extension,
-                        alf: zero_alf(),
-                        lmcs: zero_lmcs(),
-                        scaling,
-                    },
-                },
-                ApsOutcome::Refused(why) => refuse(why),
-            }
-        }
-        Stop::Refused(why) => refuse(why),
+    let mut copy = [false; 28];
+    let mut pred = [false; 28];
+    let mut delta = [0u32; 28];
+    let mut dc = [0i32; 14];
+    let mut list = [0i32; 1792];
+    let answer = scaling_answer(
+        bytes,
+        id,
+        chroma,
+        &mut copy,
+        &mut pred,
+        &mut delta,
+        &mut dc,
+        &mut list,
+    );
+    let outcome = answer.outcome;
+    let kind = answer.kind;
+    ApsReading {
+        outcome,
+        set: VvcAps {
+            kind,
+            aps_adaptation_parameter_set_id: answer.id,
+            aps_chroma_present_flag: answer.chroma,
+            aps_extension_flag: answer.extension,
+            alf: zero_alf(),
+            lmcs: zero_lmcs(),
+            scaling: VvcScalingListData {
+                copy_mode_flag: copy,
+                pred_mode_flag: pred,
+                pred_id_delta: delta,
+                dc_coef: dc,
+                scaling_list: list,
+            },
+        },
     }
 }
 

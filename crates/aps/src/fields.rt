@@ -3,15 +3,19 @@ use bitstream::Refusal;
 use bitstream::bit_reader::BitReader;
 use bitstream::bit_reader::FieldS;
 use bitstream::bit_reader::FieldU;
+use bitstream::short_codes::code_by_table;
+use bitstream::window::window_alone;
 ghost use mathlib.Core.Path.{_≡_};
 ghost use mathlib.Core.Bool.{not};
-ghost use Prim.Native.Nat.{_*_, _≤_};
+ghost use Prim.Native.Nat.{_*_, _≤_, _<_};
 ghost use lib.Dec.{eqb};
+ghost use lib.IntN.{natAbs};
 ghost use lib.ListN.{length};
 ghost use Rattle.bitstream.specs.Outcome.{value, _then_};
 ghost use Rattle.bitstream.specs.Bits.{fieldAt};
-ghost use Rattle.bitstream.specs.Fields.{lacks};
+ghost use Rattle.bitstream.specs.Fields.{lacks, seValue};
 ghost use Rattle.bitstream.specs.Reading.{outcomeU, outcomeS};
+ghost use Rattle.bitstream.specs.Windows.{ShortCodes};
 ghost use Rattle.aps.specs.Codec.{u, ue, when};
 ghost use Rattle.aps.specs.Elements.{flag, se, noFlag, signed};
 ghost use Rattle.aps.specs.Inner.{outcomeSigned};
@@ -60,8 +64,8 @@ pub(crate) fn read_flag(bytes: &[u8], p: usize) -> bool
     read_u(bytes, p, 1) != 0
 }
 
-// ue(v).
-pub(crate) fn read_ue(bytes: &[u8], p: usize) -> FieldU
+// ue(v) of any length.
+fn long_ue(bytes: &[u8], p: usize) -> FieldU
     requires { ⌜ (length (now bytes) ≤ 65536) × (p ≤ 1000000) ⌝ }
     ensures { λ r. ⌜ outcomeU r ≡ ue .read (now (bytes .entry)) p ⌝ }
 {
@@ -73,8 +77,24 @@ pub(crate) fn read_ue(bytes: &[u8], p: usize) -> FieldU
     field
 }
 
-// se(v).
-pub(crate) fn read_se(bytes: &[u8], p: usize) -> FieldS
+// ue(v), looked for in the table first.
+pub(crate) fn read_ue(bytes: &[u8], codes: &[u16; 512], p: usize) -> FieldU
+    requires { ⌜ (length (now bytes) ≤ 65536) × (p ≤ 1000000) × ShortCodes (now codes) ⌝ }
+    ensures { λ r. ⌜ outcomeU r ≡ ue .read (now (bytes .entry)) p ⌝ }
+{
+    let code = code_by_table(codes, window_alone(bytes, p));
+    let n = code.bits;
+    if n != 0 {
+        let next = p + n as usize;
+        if next <= bytes.len() * 8 {
+            return FieldU::Value(code.value, BitReader { bit_pos: next });
+        }
+    }
+    long_ue(bytes, p)
+}
+
+// se(v) of any length.
+fn long_se(bytes: &[u8], p: usize) -> FieldS
     requires { ⌜ (length (now bytes) ≤ 65536) × (p ≤ 1000000) ⌝ }
     ensures { λ r. ⌜ outcomeS r ≡ se .read (now (bytes .entry)) p ⌝ }
 {
@@ -84,6 +104,33 @@ pub(crate) fn read_se(bytes: &[u8], p: usize) -> FieldS
     }
     let field = read.field;
     field
+}
+
+// The se that a short ue stands for.
+pub(crate) fn se_of(k: u32) -> i32
+    requires { ⌜ k < 1000 ⌝ }
+    ensures { λ r. ⌜ (r ≡ seValue k) × (natAbs r ≤ 500) ⌝ }
+{
+    if k % 2 == 1 {
+        return (k / 2 + 1) as i32;
+    }
+    -((k / 2) as i32)
+}
+
+// se(v), looked for in the table first.
+pub(crate) fn read_se(bytes: &[u8], codes: &[u16; 512], p: usize) -> FieldS
+    requires { ⌜ (length (now bytes) ≤ 65536) × (p ≤ 1000000) × ShortCodes (now codes) ⌝ }
+    ensures { λ r. ⌜ outcomeS r ≡ se .read (now (bytes .entry)) p ⌝ }
+{
+    let code = code_by_table(codes, window_alone(bytes, p));
+    let n = code.bits;
+    if n != 0 {
+        let next = p + n as usize;
+        if next <= bytes.len() * 8 {
+            return FieldS::Value(se_of(code.value), BitReader { bit_pos: next });
+        }
+    }
+    long_se(bytes, p)
 }
 
 // The sign of a magnitude, if it is not 0.

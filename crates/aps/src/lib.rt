@@ -15,5 +15,6 @@ pub mod scaling_list;
 mod scaling_list_data;
 mod scaling_list_write;
 pub mod unit;
+mod windows;
 pub mod write;
 mod zeros;

@@ -3,12 +3,16 @@ use crate::fields::SignedField;
 use crate::fields::Stop;
 use crate::fields::read_signed;
 use crate::fields::read_ue;
+use crate::windows::held_signed;
+use crate::windows::window_at;
 use bitstream::Refusal;
 use bitstream::bit_reader::FieldU;
+use bitstream::short_codes::short_codes;
 ghost use mathlib.Core.Path.{_≡_};
 ghost use mathlib.Core.Bool.{true};
 ghost use Prim.Native.Nat.{_*_, _≤_};
 ghost use lib.ListN.{length};
+ghost use Rattle.bitstream.specs.Windows.{ShortCodes};
 ghost use Rattle.aps.specs.Inner.{lmcsRest, outcomeStop, outcomeSigned};
 ghost use Rattle.aps.specs.LmcsSyntax.{inRange, lmcsHead, lmcsCodewords, lmcsChroma, lmcs};
 ghost use Rattle.aps.specs.ApsSyntax.{zeroLmcs};
@@ -84,15 +88,15 @@ fn no_head(why: Refusal) -> Head
 }
 
 // All three are read, then judged.
-fn read_head(bytes: &[u8], p: usize) -> Head
-    requires { ⌜ (length (now bytes) ≤ 65536) × (p ≤ length (now bytes) * 8) ⌝ }
+fn read_head(bytes: &[u8], codes: &[u16; 512], p: usize) -> Head
+    requires { ⌜ (length (now bytes) ≤ 65536) × (p ≤ length (now bytes) * 8) × ShortCodes (now codes) ⌝ }
     ensures { λ r. ⌜ outcomeStop (r .stop) (r .min, (r .max, r .prec)) ≡ lmcsHead .read (now (bytes .entry)) p ⌝ }
 {
-    match read_ue(bytes, p) {
+    match read_ue(bytes, codes, p) {
         FieldU::Refused(why) => no_head(why),
-        FieldU::Value(min, a) => match read_ue(bytes, a.bit_pos) {
+        FieldU::Value(min, a) => match read_ue(bytes, codes, a.bit_pos) {
             FieldU::Refused(why) => no_head(why),
-            FieldU::Value(max, b) => match read_ue(bytes, b.bit_pos) {
+            FieldU::Value(max, b) => match read_ue(bytes, codes, b.bit_pos) {
                 FieldU::Refused(why) => no_head(why),
                 FieldU::Value(prec, c) => {
                     if in_range(min, max, prec) {
@@ -118,32 +122,25 @@ fn read_codewords(bytes: &[u8], p: usize, min: u32, max: u32, prec: u32) -> Code
 {
     let mut abs = [0u32; 16];
     let mut sign = [false; 16];
-    let mut at = p;
+    let mut held = window_at(bytes, p);
     let mut i = min as usize;
     let end = 16 - max as usize;
     while i < end {
-        match read_signed(bytes, at, prec + 1) {
-            SignedField::Value {
-                abs: m,
-                sign: b,
-                next,
-            } => {
-                abs[i] = m;
-                sign[i] = b;
-                at = next;
-            }
-            SignedField::Refused(why) => {
-                return Codewords {
-                    stop: Stop::Refused(why),
-                    abs,
-                    sign,
-                };
-            }
+        let field = held_signed(bytes, held, prec + 1);
+        held = field.next;
+        if bytes.len() * 8 < held.at {
+            return Codewords {
+                stop: Stop::Refused(Refusal::UnexpectedEnd),
+                abs,
+                sign,
+            };
         }
+        abs[i] = field.abs;
+        sign[i] = field.sign;
         i += 1;
     }
     Codewords {
-        stop: Stop::End(at),
+        stop: Stop::End(held.at),
         abs,
         sign,
     }
@@ -212,7 +209,8 @@ pub(crate) fn parse_lmcs_data(bytes: &[u8], p: usize, chroma: bool) -> LmcsRead
     requires { ⌜ (length (now bytes) ≤ 65536) × (p ≤ length (now bytes) * 8) ⌝ }
     ensures { λ r. ⌜ outcomeStop (r .stop) (r .lmcs) ≡ (lmcs chroma) .read (now (bytes .entry)) p ⌝ }
 {
-    let head = read_head(bytes, p);
+    let codes = short_codes();
+    let head = read_head(bytes, &codes, p);
     let stop = head.stop;
     match stop {
         Stop::End(q) => read_rest(bytes, q, chroma, head.min, head.max, head.prec),

@@ -126,7 +126,7 @@ fn put_entry(
 }
 
 // One id; of an uncoded one nothing is sent.
-fn put_id(
+fn put_id<'a>(
     out: &mut [u8],
     from: Stop,
     chroma: bool,
@@ -134,8 +134,8 @@ fn put_id(
     copy: bool,
     pred: bool,
     delta: u32,
-    dc: &[i32],
-    list: &[i32],
+    dc: &'a [i32],
+    list: &'a [i32],
 ) -> Stop
     requires { ⌜ (length (now out) ≡ 4096) × StopsBy from 31000 × (id < 28) × (length (now dc) ≡ 14) × (length (now list) ≡ 1792) ⌝ }
     ensures { λ r. ⌜ Wrote (idAt chroma id)
@@ -158,24 +158,22 @@ pub(crate) fn write_scaling_list_data(
     requires { ⌜ (length (now out) ≡ 4096) × StopsBy from 100 ⌝ }
     ensures { λ r. ⌜ Wrote (scalingSyntax chroma) (look chroma d) 31248 from r (now (out .entry)) (now (out .exit)) ⌝ }
 {
-    let copy = d.copy_mode_flag;
-    let pred = d.pred_mode_flag;
-    let delta = d.pred_id_delta;
-    let dc = d.dc_coef;
-    let list = d.scaling_list;
     let mut at = from;
     let mut id: usize = 0;
     while id < 28 {
+        let copy = d.copy_mode_flag[id];
+        let pred = d.pred_mode_flag[id];
+        let delta = d.pred_id_delta[id];
         at = put_id(
             out,
             at,
             chroma,
             id,
-            copy[id],
-            pred[id],
-            delta[id],
-            &dc,
-            &list,
+            copy,
+            pred,
+            delta,
+            &d.dc_coef,
+            &d.scaling_list,
         );
         id += 1;
     }

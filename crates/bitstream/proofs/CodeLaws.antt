@@ -3,22 +3,22 @@ use Prim.Native.Nat.{ℕ, zero, suc, _+_, _-_, _*_, _/_, _%_, _^_, _≤_, _<_}
 use mathlib.Core.Path.{_≡_, refl, sym, ap, _∙_}
 use mathlib.Core.List.{List}
 use mathlib.Core.Bool.{Bool, true, false, cond, _&&_}
-use native.Mathlib.Nat.{add-zero, zero-add, suc-add, suc-mul, mul-one, pow-suc}
+use native.Mathlib.Nat.{add-zero, zero-add, suc-add, suc-mul, mul-one}
 use native.Mathlib.Decide.{decLt}
 use native.Mathlib.Omega.{arith}
 use borrow.Author.Tests.{lt-ltb, le-ltb, eq-eqb, ne-eqb, ltb-true, ltb-false, eqb-true, eqb-false}
 use lib.Dec.{ltb, eqb}
 use lib.IntN.{pos, negℤ, _-ℤ_, +ℤ-idl}
 use lib.ListN.{length}
-use lib.Count.{leadingZeros, leading-le, leading-unique}
+use lib.Count.{leadingZeros, leading-le}
 use lib.Pow.{pow-pos, pow-mono}
 use mir.Syntax.{w32}
 use mir.Val.{toZ, ofZ, SFits}
 use mir.Facts.{toZ-pos, toZ-ofZ}
 use Rattle.bitstream.specs.Outcome.{value, refused}
 use Rattle.bitstream.specs.Bits.{bitAt, fieldAt}
-use Rattle.bitstream.specs.Fields.{zeroAt, zerosAt, suffixAt, ueValue, ueFrom, readUe, ueAsked, seValue}
-use Rattle.bitstream.proofs.FieldLaws.{bit-lt, field-none, field-lt, field-add, field-cons, field-snoc, bit-inside, word-top, leading-zero, leading-one}
+use Rattle.bitstream.specs.Fields.{zeroAt, zerosAt, suffixAt, ueValue, ueFrom, readUe, seValue}
+use Rattle.bitstream.proofs.FieldLaws.{bit-lt, field-none, field-lt, field-add, field-cons, field-snoc, bit-inside, leading-zero, leading-one}
 
 -- ---- the zeros
 
@@ -87,43 +87,6 @@ module _ (s : List ℕ) (p z : ℕ) (h : z < 32) (e : fieldAt s p z ≡ 0) (o : 
       let f : 2 ^ z - 1 + fieldAt s (p + z + 1) z ≡ fieldAt s p (suc z + z) - 1 = omega (arith, code-field, pow-pos z) in
       rw (zeros-are, lt-ltb z 32 h, suffix-is, f)
 
--- a code that stands whole in a word of 32 bits, which holds n bits from p on above k zeros
-module _ (s : List ℕ) (p n k w : ℕ) (f : n + k ≡ 32) (e : w ≡ fieldAt s p n * 2 ^ k) (h : 2 * leadingZeros 32 w < n) where
-  abbrev z : ℕ
-  z = leadingZeros 32 w
-
-  abbrev code : ℕ
-  code = w / 2 ^ (31 - 2 * z)
-
-  zero-bits : fieldAt s p z ≡ 0
-  zero-bits = leading-zero s p n k 32 w f e (omega arith)
-
-  one-after : bitAt s (p + z) ≡ 1
-  one-after = leading-one s p n k 32 w f e (omega arith)
-
-  code-is : code ≡ fieldAt s p (suc z + z)
-  code-is =
-      let a : 31 - 2 * z ≡ 32 - (suc z + z) = omega arith in
-      ap (λ (x : ℕ). w / 2 ^ x) a ∙ word-top s p n k 32 w f e (suc z + z) (omega arith)
-
-  code-sum : code ≡ 2 ^ z + fieldAt s (p + z + 1) z
-  code-sum = code-is ∙ code-field s p z (omega arith) zero-bits one-after
-
-  pub code-lt : code < 2 ^ suc z
-  code-lt = omega (arith, code-sum, field-lt s (p + z + 1) z, pow-suc 2 z)
-
-  code-zeros : leadingZeros 32 code ≡ 31 - z
-  code-zeros = sym (leading-unique 32 code (31 - z) (suc z) (omega arith) code-lt (omega (arith, code-sum, pow-suc 2 z)))
-
-  pub code-asked : ueAsked s p ≡ 63 - 2 * leadingZeros 32 code
-  unfolding ueAsked
-  code-asked = omega (arith, zeros-are s p z (omega arith) zero-bits one-after, code-zeros)
-
-  pub code-answer : readUe s p ≡ value (code - 1) (p + (63 - 2 * leadingZeros 32 code))
-  code-answer =
-      let q : p + z + 1 + z ≡ p + (63 - 2 * leadingZeros 32 code) = omega (arith, code-zeros) in
-      code-read s p z (omega arith) zero-bits one-after ∙ rw (← code-is, q)
-
 -- the count in the 32 bits from p on, of which the input has some
 module _ (s : List ℕ) (p : ℕ) (i : p < length s * 8) where
   abbrev zeros : ℕ
@@ -158,14 +121,6 @@ module _ (s : List ℕ) (p : ℕ) (i : p < length s * 8) where
 suffix-end : (s : List ℕ) (p z : ℕ) → length s * 8 ≤ p + z → suffixAt s p z ≡ p + z
 unfolding suffixAt
 suffix-end s p z h = rw (le-ltb _ _ h)
-
-suffix-le : (s : List ℕ) (p z : ℕ) → suffixAt s p z ≤ p + z + 1
-unfolding suffixAt
-suffix-le s p z = go (ltb (p + z) (length s * 8))
-  where
-    go : (b : Bool) → cond b (p + z + 1) (p + z) ≤ p + z + 1
-    go true = omega arith
-    go false = omega arith
 
 -- z zeros and a suffix of z bits make a value below 2 ^ 32 - 1, for z below 32
 pub ue-lt : (z v : ℕ) → z < 32 → v < 2 ^ z → ueValue z v < 4294967295

@@ -67,6 +67,10 @@ unfolding fieldAt
 field-past s p zero h = refl
 field-past s p (suc n) h = omega (arith, field-past s p n h, bit-past s (p + n) (omega arith))
 
+-- a field that passes the end goes on with zeros
+pub field-end : (s : List ℕ) (p n k : ℕ) → length s * 8 ≤ p + n → fieldAt s p (n + k) ≡ fieldAt s p n * 2 ^ k
+field-end s p n k h = field-add s p n k ∙ omega (arith, field-past s (p + n) k h)
+
 -- ---- parts of a longer field
 
 -- the n bits after the first m and before the last k

@@ -2,6 +2,9 @@ pub mod ByteLaws
 pub mod FieldLaws
 pub mod CodeLaws
 pub mod CallLaws
+pub mod Table
+pub mod ShortCodes
+pub mod WindowLaws
 pub mod WriteLaws
 pub mod Signed
 pub mod KeepLaws

@@ -4,3 +4,4 @@ pub mod Fields
 pub mod Reading
 pub mod Writing
 pub mod Escapes
+pub mod Windows

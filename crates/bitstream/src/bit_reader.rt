@@ -2,15 +2,20 @@
 use crate::LAST_START;
 use crate::LONGEST_INPUT;
 use crate::Refusal;
+use crate::short_codes::code_by_table;
+use crate::short_codes::short_codes;
+use crate::window::Code;
+use crate::window::code_in;
+use crate::window::window_alone;
 ghost use mathlib.Core.Path.{_≡_};
 ghost use mathlib.Core.Bool.{false};
 ghost use Prim.Native.Nat.{_+_, _-_, _*_, _/_, _%_, _^_, _≤_, _<_};
 ghost use lib.ListN.{length, getD};
 ghost use Rattle.bitstream.specs.Bits.{fieldAt};
-ghost use lib.Count.{leadingZeros};
-ghost use Rattle.bitstream.specs.Outcome.{value, refused, mapOutcome, number};
-ghost use Rattle.bitstream.specs.Fields.{lacks, zerosAt, suffixAt, readUe, ueAsked, seValue};
+ghost use Rattle.bitstream.specs.Outcome.{refused, mapOutcome, number};
+ghost use Rattle.bitstream.specs.Fields.{lacks, zerosAt, suffixAt, seValue};
 ghost use Rattle.bitstream.specs.Reading.{outcomeU, outcomeS, outcomeT, BelowMost};
+ghost use Rattle.bitstream.specs.Windows.{windowAt, codeIn, found};
 ghost use Rattle.bitstream.specs.Reading.{uAt, uLacking, ueAt, ueLacking, seAt, seLacking, trailingAt};
 
 // A position in a byte slice, as a bit.
@@ -80,7 +85,7 @@ fn lacks_bits(bytes: &[u8], p: usize, n: u32) -> bool
 }
 
 // Byte i.
-fn byte(bytes: &[u8], i: usize) -> u64
+pub(crate) fn byte(bytes: &[u8], i: usize) -> u64
     requires { ⌜ i < length (now bytes) ⌝ }
     ensures { λ r. ⌜ (r ≡ getD (now (bytes .entry)) i 0) × (r < 256) ⌝ }
 {
@@ -88,7 +93,7 @@ fn byte(bytes: &[u8], i: usize) -> u64
 }
 
 // Byte i, or 0 past the end.
-fn byte_or_zero(bytes: &[u8], i: usize) -> u64
+pub(crate) fn byte_or_zero(bytes: &[u8], i: usize) -> u64
     ensures { λ r. ⌜ (r ≡ getD (now (bytes .entry)) i 0) × (r < 256) ⌝ }
 {
     if i < bytes.len() { byte(bytes, i) } else { 0 }
@@ -139,45 +144,6 @@ fn wide(bytes: &[u8], p: usize, n: u32) -> u32
     }
 }
 
-// The 24 - p % 8 bits from bit p on, as the highest of a u32 whose rest is 0.
-fn word(bytes: &[u8], p: usize) -> u32
-    requires { ⌜ p ≤ 2097152 ⌝ }
-    ensures { λ r. ⌜ (r ≡ fieldAt (now (bytes .entry)) p (24 - p % 8) * 2 ^ (8 + p % 8)) × (r < 4294967296) ⌝ }
-{
-    (three(bytes, p / 8) as u32) << (8 + p % 8) as u32
-}
-
-// A ue of at most 8 zeros from its 1 bit on, out of one word; 0 for a longer one.
-fn short_code(bytes: &[u8], p: usize) -> u32
-    requires { ⌜ p ≤ 1048576 ⌝ }
-    ensures below { λ r. ⌜ r < 512 ⌝ }
-    ensures field { λ r. ⌜ (0 < r → readUe (now (bytes .entry)) p ≡ value (r - 1) (p + (63 - 2 * leadingZeros 32 r))) ⌝ }
-    ensures asked { λ r. ⌜ (0 < r → ueAsked (now (bytes .entry)) p ≡ 63 - 2 * leadingZeros 32 r) ⌝ }
-{
-    let w = word(bytes, p);
-    let z = u32::leading_zeros(w);
-    if 8 < z {
-        return 0;
-    }
-    w >> (31 - 2 * z)
-}
-
-// The field of a short code.
-fn short_ue(bytes: &[u8], p: usize, code: u32) -> ReadU
-    requires { ⌜ (length (now bytes) ≤ 65536) × (p ≤ 1048576) × (0 < code) × (code < 512) ⌝ }
-    ensures field { λ r. ⌜ outcomeU (r .field) ≡ value (code - 1) (p + (63 - 2 * leadingZeros 32 code)) ⌝ }
-    ensures lacking { λ r. ⌜ r .lacking ≡ lacks (now (bytes .entry)) p (63 - 2 * leadingZeros 32 code) ⌝ }
-{
-    let n = 63 - 2 * u32::leading_zeros(code);
-    let after = BitReader {
-        bit_pos: p + n as usize,
-    };
-    ReadU {
-        field: FieldU::Value(code - 1, after),
-        lacking: lacks_bits(bytes, p, n),
-    }
-}
-
 // The 0 bits from bit p on, up to a 1 bit, the input's end, or 32 of them.
 fn leading_zeros(bytes: &[u8], p: usize) -> u32
     requires { ⌜ (length (now bytes) ≤ 65536) × (p ≤ 1048576) ⌝ }
@@ -222,17 +188,23 @@ fn long_ue(bytes: &[u8], p: usize) -> ReadU
     }
 }
 
-// A ue, out of one word where it is short.
-fn any_ue(bytes: &[u8], p: usize) -> ReadU
-    requires { ⌜ (length (now bytes) ≤ 65536) × (p ≤ 1048576) ⌝ }
+// A ue that was looked for at the start of the window at bit p.
+fn ue_of(bytes: &[u8], p: usize, code: Code) -> ReadU
+    requires { ⌜ (length (now bytes) ≤ 65536) × (p ≤ 1048576) × (found code ≡ codeIn (windowAt (now bytes) p)) ⌝ }
     ensures field { λ r. ⌜ outcomeU (r .field) ≡ ueAt (now (bytes .entry)) p ⌝ }
     ensures lacking { λ r. ⌜ r .lacking ≡ ueLacking (now (bytes .entry)) p ⌝ }
 {
-    let code = short_code(bytes, p);
-    if code == 0 {
+    let size = code.bits;
+    if size == 0 {
         return long_ue(bytes, p);
     }
-    short_ue(bytes, p, code)
+    let after = BitReader {
+        bit_pos: p + size as usize,
+    };
+    ReadU {
+        field: FieldU::Value(code.value, after),
+        lacking: lacks_bits(bytes, p, size as u32),
+    }
 }
 
 // The se that a ue stands for.
@@ -340,7 +312,36 @@ impl BitReader {
         if LAST_START < p {
             return refused_s(Refusal::InvalidData);
         }
-        let read = any_ue(bytes, p);
+        let read = ue_of(bytes, p, code_in(window_alone(bytes, p)));
+        let field = read.field;
+        ReadS {
+            field: signed(field),
+            lacking: read.lacking,
+        }
+    }
+
+    // ue(v), a short one by the table.
+    pub fn ue_by_table(self, bytes: &[u8]) -> ReadU
+        ensures field { λ r. ⌜ outcomeU (r .field) ≡ ueAt (now (bytes .entry)) (self .«bit_pos») ⌝ }
+        ensures lacking { λ r. ⌜ r .lacking ≡ ueLacking (now (bytes .entry)) (self .«bit_pos») ⌝ }
+    {
+        let p = self.bit_pos;
+        if LONGEST_INPUT < bytes.len() {
+            return refused_u(Refusal::InputTooLong);
+        }
+        if LAST_START < p {
+            return refused_u(Refusal::InvalidData);
+        }
+        let codes = short_codes();
+        ue_of(bytes, p, code_by_table(&codes, window_alone(bytes, p)))
+    }
+
+    // se(v), a short one by the table.
+    pub fn se_by_table(self, bytes: &[u8]) -> ReadS
+        ensures field { λ r. ⌜ outcomeS (r .field) ≡ seAt (now (bytes .entry)) (self .«bit_pos») ⌝ }
+        ensures lacking { λ r. ⌜ r .lacking ≡ seLacking (now (bytes .entry)) (self .«bit_pos») ⌝ }
+    {
+        let read = self.ue_by_table(bytes);
         let field = read.field;
         ReadS {
             field: signed(field),

@@ -2,6 +2,8 @@
 pub mod bit_reader;
 pub mod bit_writer;
 pub mod nal;
+pub mod short_codes;
+pub mod window;
 
 ghost use mathlib.Core.Path.{_≡_};
 ghost use Rattle.bitstream.specs.Outcome.{number as numberOf};

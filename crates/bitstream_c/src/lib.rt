@@ -119,6 +119,24 @@ pub extern "C" fn bitstream_se(bytes: &[u8], at: usize, answer: &mut [i64; 3]) -
 }
 
 #[no_mangle]
+pub extern "C" fn bitstream_ue_by_table(bytes: &[u8], at: usize, answer: &mut [u64; 3]) -> u32
+    ensures code { λ r. ⌜ r ≡ code (ueAt (now (bytes .entry)) at) ⌝ }
+    ensures answer { λ _. ⌜ now (answer .exit) ≡
+        answered (ueAt (now (bytes .entry)) at) (ueLacking (now (bytes .entry)) at) (now (answer .entry)) ⌝ }
+{
+    unsigned((BitReader { bit_pos: at }).ue_by_table(bytes), answer)
+}
+
+#[no_mangle]
+pub extern "C" fn bitstream_se_by_table(bytes: &[u8], at: usize, answer: &mut [i64; 3]) -> u32
+    ensures code { λ r. ⌜ r ≡ code (seAt (now (bytes .entry)) at) ⌝ }
+    ensures answer { λ _. ⌜ now (answer .exit) ≡
+        answeredSigned (seAt (now (bytes .entry)) at) (seLacking (now (bytes .entry)) at) (now (answer .entry)) ⌝ }
+{
+    signed((BitReader { bit_pos: at }).se_by_table(bytes), answer)
+}
+
+#[no_mangle]
 pub extern "C" fn bitstream_trailing(bytes: &[u8], at: usize, answer: &mut [u64; 1]) -> u32
     ensures code { λ r. ⌜ r ≡ code (trailingAt (now (bytes .entry)) at) ⌝ }
     ensures answer { λ _. ⌜ now (answer .exit) ≡ placed (trailingAt (now (bytes .entry)) at) (now (answer .entry)) ⌝ }

@@ -6,6 +6,7 @@ use denote.Ref.{now}
 use Rattle.aps.proofs.AlternativeSteps.{alternative-from}
 use Rattle.aps.specs.declared.fields.Stop.the-variants as Stop
 use Rattle.aps.proofs.AlfSteps.{first-coefficients}
+use Rattle.aps.proofs.ClipSteps.{sent-rows}
 use Rattle.aps.proofs.Bounds.{stops-inside}
 use Rattle.aps.proofs.alf_chroma.read_alternative.Statement.{statement}
 use Rattle.aps.proofs.alf_chroma.read_alternative.Tie as tie
@@ -30,7 +31,7 @@ read-clips-requires c κs =
     let k = c .before .before .before .before in
     let b = k .before .before .before .before in
     let e = k .read-coefficients in
-    (b .pre .0, stops-inside (first-coefficients 6 6) (now (b .args .bytes)) (Stop.End (b .args .p)) (e .result) (e .last .1 .1 .1 .0, e .last .1 .1 .1 .1 .0) (e .ensures) (b .pre .1), omega arith, omega arith, refl)
+    (b .pre .0, stops-inside (first-coefficients 6 6) (now (b .args .bytes)) (Stop.End (b .args .p)) (e .result) (e .last .1 .1 .1 .1 .0, e .last .1 .1 .1 .1 .1 .0) (e .ensures) (b .pre .1), omega arith, omega arith, sent-rows (b .args .clip) 6 _ refl (c .before .clips-sent .ensures .0), refl)
 
 returns : tie.Need-returns
 returns c =
@@ -39,7 +40,7 @@ returns c =
     let k = c .before .before .before .before .before .before in
     let e = k .read-coefficients in
     let a = k .before .before .before .before .args in
-    alternative-from (now (a .bytes)) (a .p) (a .clip) (e .result) (d .result) (e .last .1 .1 .1 .0) (e .last .1 .1 .1 .1 .0) (d .last .1 .1 .1 .0) (w .result) (w .ensures .0) (e .ensures) (d .ensures)
+    alternative-from (now (a .bytes)) (a .p) (a .clip) (e .result) (d .result) (e .last .1 .1 .1 .1 .0) (e .last .1 .1 .1 .1 .1 .0) (d .last .1 .1 .1 .0) (w .result) (w .ensures .0) (e .ensures) (d .ensures)
 
 pub read-alternative-spec : {M : Type 1} → statement M
 read-alternative-spec =

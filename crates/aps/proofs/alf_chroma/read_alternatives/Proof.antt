@@ -18,11 +18,11 @@ use Rattle.aps.proofs.alf_chroma.read_alternatives.Statement.{statement
 use Rattle.aps.proofs.alf_chroma.read_alternatives.Tie as tie
 
 abbrev Inv-loop : tie.InvT-loop
-Inv-loop bytes p clip count-minus1 abs₀ sign₀ clips₀ at₀ row₀ abs sign clips at row =
+Inv-loop bytes codes p clip count-minus1 abs₀ sign₀ clips₀ at₀ row₀ abs sign clips at row =
     (row ≤ count-minus1 + 1) × (at ≤ length bytes * 8) × Rows clip count-minus1 bytes p row abs sign clips at
 
 abbrev μ-loop : tie.MeasureT-loop
-μ-loop bytes p clip count-minus1 abs₀ sign₀ clips₀ at₀ row₀ abs sign clips at row = count-minus1 + 1 - row
+μ-loop bytes codes p clip count-minus1 abs₀ sign₀ clips₀ at₀ row₀ abs sign clips at row = count-minus1 + 1 - row
 
 loop-holds : tie.Need-loop-holds Inv-loop μ-loop
 loop-holds c =
@@ -31,7 +31,7 @@ loop-holds c =
     (omega arith, b .pre .1, rows-from (a .clip) (a .count-minus1) (now (a .bytes)) (a .p) (a .abs .now) (a .sign .now) (a .clips .now) (b .pre .3) (b .pre .4) (b .pre .5))
 
 read-alternative-requires : tie.Need-read-alternative-requires Inv-loop μ-loop
-read-alternative-requires c κs = (omega arith, omega arith)
+read-alternative-requires c κs = (omega arith, omega arith, c .before .before .before .pre .6)
 
 enum-known-stop : tie.Need-enum-known-stop Inv-loop μ-loop
 enum-known-stop c = search needs

@@ -1,6 +1,6 @@
 -- `read_cc`: the count is read and judged before the coefficients.
 use borrow.Author.Needs.{needs}
-use mathlib.Core.Path.{refl, sym, ap, _∙_}
+use mathlib.Core.Path.{sym, ap, _∙_}
 use mathlib.Core.Bool.{Bool}
 use mathlib.Core.List.{List}
 use Prim.Native.Nat.{ℕ}
@@ -29,15 +29,12 @@ read-cc-coefficients-requires c κs =
       b .pre .0,
       inside (ueTo-any 3) (now (b .args .bytes)) (b .args .p) _ _ e (b .pre .1),
       ueTo-most 3 (now (b .args .bytes)) (b .args .p) _ _ (sym e),
-      refl,
-      refl,
+      b .pre .2,
+      b .pre .3,
     )
 
 enum-known-count-2 : tie.Need-enum-known-count-2
 enum-known-count-2 c = search needs
-
-no-cc-requires : tie.Need-no-cc-requires
-no-cc-requires c κs = search needs
 
 returns : tie.Need-returns
 unfolding toCc
@@ -51,8 +48,8 @@ returns c =
 
 returns-2 : tie.Need-returns-2
 returns-2 c =
-    let k = c .before .before .before .before .read-ue-to in
-    let count = sym (k .ensures) ∙ ap outcomeU (c .before .before .count2 .given .1) in
+    let k = c .before .before .before .read-ue-to in
+    let count = sym (k .ensures) ∙ ap outcomeU (c .before .count2 .given .1) in
     rw (cc-read, count)
 
 pub read-cc-spec : {M : Type 1} → statement M
@@ -63,6 +60,5 @@ read-cc-spec =
     enum-known-count
     read-cc-coefficients-requires
     enum-known-count-2
-    no-cc-requires
     returns
     returns-2)

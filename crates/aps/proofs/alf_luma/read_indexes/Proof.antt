@@ -1,22 +1,25 @@
 -- `read_indexes`: the loop has read the first i indexes.
-use mathlib.Core.Path.{sym, _∙_}
-use Prim.Native.Nat.{_+_, _-_, _*_, _≤_}
+use mathlib.Core.Path.{sym}
+use Prim.Native.Nat.{_-_, _*_, _≤_}
 use native.Mathlib.Omega.{arith}
 use borrow.Author.Needs.{needs}
 use borrow.Author.Tests.{le-ltb}
 use denote.Ref.{now}
 use lib.ListN.{length}
-use Rattle.aps.proofs.CodecLaws.{inside}
+use Rattle.aps.specs.Inner.{Known}
 use Rattle.aps.proofs.Steps.{when-read, Reading, reading-more, reading-done, reading-refused}
-use Rattle.aps.proofs.AlfSteps.{reading-from, index, index-law, index-lacking, index-taken, index-refused}
+use Rattle.aps.proofs.AlfLaws.{ceilLog2-le, ceilLog2-some}
+use Rattle.aps.proofs.AlfSteps.{reading-from, index, index-lacking, index-taken, index-refused}
+use Rattle.aps.proofs.WindowSteps.{ends-past, ends-inside}
 use Rattle.aps.proofs.alf_luma.read_indexes.Statement.{statement}
 use Rattle.aps.proofs.alf_luma.read_indexes.Tie as tie
 
 abbrev Inv-loop : tie.InvT-loop
-Inv-loop bytes p count-minus1 idx₀ bits at₀ i₀ idx at i = (i ≤ 25) × (at ≤ length bytes * 8) × Reading (λ i. index count-minus1) 25 0 bytes p i idx at
+Inv-loop bytes p count-minus1 idx₀ bits held₀ i₀ idx held i =
+    (i ≤ 25) × (held .at ≤ length bytes * 8) × Known bytes held × Reading (λ i. index count-minus1) 25 0 bytes p i idx (held .at)
 
 abbrev μ-loop : tie.MeasureT-loop
-μ-loop bytes p count-minus1 idx₀ bits at₀ i₀ idx at i = 25 - i
+μ-loop bytes p count-minus1 idx₀ bits held₀ i₀ idx held i = 25 - i
 
 returns : tie.Need-returns Inv-loop μ-loop
 returns c =
@@ -32,54 +35,58 @@ add-ceil-log2 c = omega arith
 ceil-log2-requires : tie.Need-ceil-log2-requires Inv-loop μ-loop
 ceil-log2-requires c κs = search needs
 
+window-at-requires : tie.Need-window-at-requires Inv-loop μ-loop
+window-at-requires c κs = search needs
+
 loop-holds : tie.Need-loop-holds Inv-loop μ-loop
 loop-holds c =
-    let b = c .before .before .before in
+    let b = c .before .before .before .before in
     let a = b .args in
-    (omega arith, b .pre .1, reading-from (λ i. index (a .count-minus1)) 25 0 (now (a .bytes)) (a .p) (a .idx .now) (b .pre .3))
+    let w = c .window-at .ensures in
+    (omega arith, omega (arith, w .1, b .pre .1), w .0, rw (w .1) (reading-from (λ i. index (a .count-minus1)) 25 0 (now (a .bytes)) (a .p) (a .idx .now) (b .pre .3)))
 
-cast-lacks-bits : tie.Need-cast-lacks-bits Inv-loop μ-loop
-cast-lacks-bits c = search needs
+held-u-requires : tie.Need-held-u-requires Inv-loop μ-loop
+held-u-requires c κs =
+    let l = c .before in
+    let b = l .before .before .before .before .before in
+    let n = b .args .count-minus1 in
+    let w = l .before .before .ceil-log2 .ensures .0 in
+    (b .pre .0, l .loop .inv .2, l .loop .inv .1, omega (arith, w, ceilLog2-some n (omega arith) (b .pre .2)), omega (arith, w, ceilLog2-le n (b .pre .2)), omega arith)
 
-lacks-bits-requires : tie.Need-lacks-bits-requires Inv-loop μ-loop
-lacks-bits-requires c κs = (omega arith, omega arith, omega arith)
+mul-if2 : tie.Need-mul-if2 Inv-loop μ-loop
+mul-if2 c = omega arith
 
 returns-2 : tie.Need-returns-2 Inv-loop μ-loop
 returns-2 c =
-    let l = c .before .before .before in
-    let a = l .before .before .before .before .args in
+    let l = c .before .before .before .before .before in
+    let a = l .before .before .before .before .before .args in
+    let s = now (a .bytes) in
     let o = l .loop in
     let n = a .count-minus1 in
-    let w = l .before .ceil-log2 in
-    let e = index-lacking n (now (a .bytes)) (o .at) (w .result) (w .ensures .0) (omega arith) (sym (c .before .lacks-bits .ensures) ∙ c .if2 .taken) in
-    sym (reading-refused (λ i. index n) 25 0 (now (a .bytes)) (a .p) (o .i) (o .idx) (o .at) (o .inv .2) 1 (omega arith) e)
-
-read-u-requires : tie.Need-read-u-requires Inv-loop μ-loop
-read-u-requires c κs = (omega arith, omega arith, omega arith)
+    let k = c .before .before .before .held-u in
+    let w = l .before .before .ceil-log2 in
+    let e = index-lacking n s (o .held .at) (w .result) (w .ensures .0) (omega arith) (ends-past s (k .result .next .at) (k .result .value) (k .ensures .0) (c .if2 .taken)) in
+    sym (reading-refused (λ i. index n) 25 0 s (a .p) (o .i) (o .idx) (o .held .at) (o .inv .3) 1 (omega arith) e)
 
 returns-3 : tie.Need-returns-3 Inv-loop μ-loop
 returns-3 c =
-    let d = c .before .before in
-    let l = d .before .before .before in
-    let a = l .before .before .before .before .args in
+    let d = c .before in
+    let l = d .before .before .before .before .before in
+    let a = l .before .before .before .before .before .args in
+    let s = now (a .bytes) in
     let o = l .loop in
     let n = a .count-minus1 in
-    let k = c .before .read-u in
-    let w = l .before .ceil-log2 in
-    let e = index-refused n (now (a .bytes)) (o .at) (w .result) (w .ensures .0) (omega arith) (k .result) (sym (d .before .lacks-bits .ensures) ∙ d .if2 .left) (k .ensures) (c .if3 .taken) in
-    sym (reading-refused (λ i. index n) 25 0 (now (a .bytes)) (a .p) (o .i) (o .idx) (o .at) (o .inv .2) 2 (omega arith) e)
+    let k = d .before .before .before .held-u in
+    let w = l .before .before .ceil-log2 in
+    let r = ends-inside s (k .result .next .at) (k .result .value) (k .ensures .0) (d .if2 .left) in
+    let e = index-refused n s (o .held .at) (w .result) (w .ensures .0) (omega arith) (k .result .value) (k .result .next .at) r (c .if3 .taken) in
+    sym (reading-refused (λ i. index n) 25 0 s (a .p) (o .i) (o .idx) (o .held .at) (o .inv .3) 2 (omega arith) e)
 
 cast-idx : tie.Need-cast-idx Inv-loop μ-loop
 cast-idx c = omega arith
 
 element-write-idx : tie.Need-element-write-idx Inv-loop μ-loop
 element-write-idx c = omega arith
-
-cast-at : tie.Need-cast-at Inv-loop μ-loop
-cast-at c = omega arith
-
-add-at : tie.Need-add-at Inv-loop μ-loop
-add-at c = omega arith
 
 add-i : tie.Need-add-i Inv-loop μ-loop
 add-i c = omega arith
@@ -89,22 +96,24 @@ loop-less c = omega arith
 
 loop-again : tie.Need-loop-again Inv-loop μ-loop
 loop-again c =
-    let d = c .before .before in
-    let l = d .before .before .before in
-    let a = l .before .before .before .before .args in
+    let d = c .before in
+    let l = d .before .before .before .before .before in
+    let a = l .before .before .before .before .before .args in
+    let s = now (a .bytes) in
     let o = l .loop in
     let n = a .count-minus1 in
-    let k = c .before .read-u in
-    let w = l .before .ceil-log2 in
-    let e = index-taken n (now (a .bytes)) (o .at) (w .result) (w .ensures .0) (omega arith) (k .result) (sym (d .before .lacks-bits .ensures) ∙ d .if2 .left) (k .ensures) (c .if3 .left) in
-    (omega arith, inside (index-law n) _ _ _ _ e (o .inv .1), reading-more (λ i. index n) 25 0 (now (a .bytes)) (a .p) (o .i) (o .idx) (o .at) (o .inv .2) (k .result) (o .at + w .result) (omega arith) e)
+    let k = d .before .before .before .held-u in
+    let w = l .before .before .ceil-log2 in
+    let r = ends-inside s (k .result .next .at) (k .result .value) (k .ensures .0) (d .if2 .left) in
+    let e = index-taken n s (o .held .at) (w .result) (w .ensures .0) (omega arith) (k .result .value) (k .result .next .at) r (c .if3 .left) in
+    (omega arith, d .if2 .left, k .ensures .1 .0, reading-more (λ i. index n) 25 0 s (a .p) (o .i) (o .idx) (o .held .at) (o .inv .3) (k .result .value) (k .result .next .at) (omega arith) e)
 
 returns-4 : tie.Need-returns-4 Inv-loop μ-loop
 returns-4 c =
     let l = c .before in
-    let a = l .before .before .before .before .args in
+    let a = l .before .before .before .before .before .args in
     let o = l .loop in
-    sym (reading-done (λ i. index (a .count-minus1)) 25 0 (now (a .bytes)) (a .p) (o .i) (o .idx) (o .at) (o .inv .2) (omega arith) (λ j h l. absurd (omega arith)))
+    sym (reading-done (λ i. index (a .count-minus1)) 25 0 (now (a .bytes)) (a .p) (o .i) (o .idx) (o .held .at) (o .inv .3) (omega arith) (λ j h l. absurd (omega arith)))
 
 pub read-indexes-spec : {M : Type 1} → statement M
 read-indexes-spec =
@@ -115,16 +124,14 @@ read-indexes-spec =
     returns
     add-ceil-log2
     ceil-log2-requires
+    window-at-requires
     loop-holds
-    cast-lacks-bits
-    lacks-bits-requires
+    held-u-requires
+    mul-if2
     returns-2
-    read-u-requires
     returns-3
     cast-idx
     element-write-idx
-    cast-at
-    add-at
     add-i
     loop-less
     loop-again

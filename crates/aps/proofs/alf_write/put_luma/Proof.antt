@@ -70,14 +70,14 @@ put-luma-filters-requires c κs =
     let f = k .before .before .before .before in
     let b = f .before .before .before .before .before .before .before .before .before in
     let d = b .args .d in
-    let h = b .good .1 .1 .1 .0 .1 .1 .1 .1 in (
+    let h = b .good .1 .1 .1 .0 .1 .1 .1 in (
       search needs,
       stops-more (k .put-ue-to .result) (5000 + 1 + (2 * ueZeros 24 + 1)) 10000 (k .put-ue-to .ensures .within (5000 + 1) (f .put-flag .ensures .within 5000 (b .pre .1))) (omega (arith, count-24)),
       omega arith,
-      length-unmapped ℕ (d .«alf_luma_coeff_delta_idx») 25 (h .0 .1 .0 .1),
-      length-unmapped ℕ (d .«coeff_abs») 300 (h .1 .0 .1 .0 .1),
-      length-unmapped Bool (d .«coeff_sign») 300 (h .1 .1 .0 .1 .0 .1),
-      length-unmapped ℕ (d .«clip_idx») 300 (h .1 .1 .1 .0 .1 .0 .1),
+      length-unmapped ℕ (d .«alf_luma_coeff_delta_idx») 25 (h .1 .1 .0 .1 .0 .1),
+      length-unmapped ℕ (d .«coeff_abs») 300 (h .0 .1 .0 .1),
+      length-unmapped Bool (d .«coeff_sign») 300 (h .1 .1 .1 .0 .1 .0 .1),
+      length-unmapped ℕ (d .«clip_idx») 300 (h .1 .1 .1 .1 .0 .1 .0 .1),
     )
 
 same-length : tie.Need-same-length

@@ -13,7 +13,7 @@ use Rattle.aps.specs.declared.aps.ApsKind.{ApsKind}
 use Rattle.aps.proofs.CodecLaws.{inside}
 use Rattle.aps.proofs.LmcsLaws.{lmcs-law}
 use Rattle.aps.proofs.FieldLaws.{lacks-none}
-use Rattle.aps.proofs.Answers.{answered, refused-parts}
+use Rattle.aps.proofs.Answers.{answered, refused-lmcs}
 use Rattle.aps.proofs.RbspSteps.{setOf, lmcs-refused, lmcs-id, lmcs-set, set-ended, set-refused}
 
 -- what the payload gave
@@ -29,7 +29,9 @@ refuse-lmcs-requires c κs = search needs
 returns : tie.Need-returns
 returns c =
     let b = c .before .before .before in
-    refused-parts _ (c .refuse-lmcs .ensures) (lmcs-id (now (b .args .bytes)) (b .args .id) (b .args .chroma) (b .pre .1) (c .before .if1 .taken))
+    refused-lmcs _ _
+    (lmcs-id (now (b .args .bytes)) (b .args .id) (b .args .chroma) (b .pre .1) (c .before .if1 .taken))
+    (c .refuse-lmcs .result) (c .refuse-lmcs .ensures)
 
 parse-lmcs-data-requires : tie.Need-parse-lmcs-data-requires
 parse-lmcs-data-requires c κs =
@@ -75,15 +77,18 @@ returns-3 c =
     let k = c .before .before .before .before .before .before .before .before .before .parse-lmcs-data in
     let t = taken (c .before .before .before .before .before) in
     let r = c .before .before .before .before .read-ending in
-    refused-parts _ (c .refuse-lmcs2 .ensures)
+    refused-lmcs _ _
     (set-refused (setOf ApsKind.Lmcs (b .args .id) (b .args .chroma) zeroAlf (k .result .lmcs) zeroScaling) (r .result .extension) (r .result .outcome) (r .ensures _) (lmcs-set (now (b .args .bytes)) (b .args .id) (b .args .chroma) (b .pre .1) (c .before .before .before .before .before .before .before .before .before .before .if1 .left) _ _ t) _ (c .before .before .end2 .given .1))
+    (c .refuse-lmcs2 .result) (c .refuse-lmcs2 .ensures)
 
 returns-4 : tie.Need-returns-4
 returns-4 c =
     let b = c .before .before .before .before .before .before .before .before in
     let k = c .before .before .before .before .before .parse-lmcs-data in
     let e = answered (λ st. outcomeStop st (k .result .lmcs)) (c .before .before .stop2 .given .1) (k .ensures) in
-    refused-parts _ (c .refuse-lmcs3 .ensures) (lmcs-refused (now (b .args .bytes)) (b .args .id) (b .args .chroma) (b .pre .1) (c .before .before .before .before .before .before .if1 .left) _ e)
+    refused-lmcs _ _
+    (lmcs-refused (now (b .args .bytes)) (b .args .id) (b .args .chroma) (b .pre .1) (c .before .before .before .before .before .before .if1 .left) _ e)
+    (c .refuse-lmcs3 .result) (c .refuse-lmcs3 .ensures)
 
 pub lmcs-answer-spec : {M : Type 1} → statement M
 lmcs-answer-spec =

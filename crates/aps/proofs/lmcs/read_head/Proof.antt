@@ -48,7 +48,8 @@ enum-known-min c = search needs
 
 read-ue-requires-2 : tie.Need-read-ue-requires-2
 read-ue-requires-2 c κs =
-    (c .before .before .before .before .before .pre .0, omega (arith, min-ends c))
+    let b = c .before .before .before .before .before in
+    (b .pre .0, omega (arith, min-ends c), b .pre .2)
 
 enum-known-why-2 : tie.Need-enum-known-why-2
 enum-known-why-2 c = search needs
@@ -61,7 +62,8 @@ enum-known-max c = search needs
 
 read-ue-requires-3 : tie.Need-read-ue-requires-3
 read-ue-requires-3 c κs =
-    (c .before .before .before .before .before .before .before .before .before .pre .0, omega (arith, inside ue-law _ _ _ _ (second c) (min-ends (c .before .before .before .before))))
+    let b = c .before .before .before .before .before .before .before .before .before in
+    (b .pre .0, omega (arith, inside ue-law _ _ _ _ (second c) (min-ends (c .before .before .before .before))), b .pre .2)
 
 enum-known-why-3 : tie.Need-enum-known-why-3
 enum-known-why-3 c = search needs

@@ -41,7 +41,7 @@ read-steps-requires c κs =
     let k = c .before in
     let a = start k .args in
     let b = start k .pre in
-    (b .0, inside (when-law (ltb 13 (a .id)) (just-is (pos 0)) λ t. se8-law) _ _ _ _ (told k) (b .1), b .2, rw (dc-is k) (given Small (told k) (dc-small (a .id) (now (a .bytes)) (a .p))))
+    (b .0, inside (when-law (ltb 13 (a .id)) (just-is (pos 0)) λ t. se8-law) _ _ _ _ (told k) (b .1), b .2, rw (dc-is k) (given Small (told k) (dc-small (a .id) (now (a .bytes)) (a .p))), b .3)
 
 enum-known-field-2 : tie.Need-enum-known-field-2
 enum-known-field-2 c = search needs
@@ -49,7 +49,7 @@ enum-known-field-2 c = search needs
 returns : tie.Need-returns
 returns c =
     let k = c .before .before in
-    rw (dc-is k) (coefficients-stored _ _ _ (told k) (c .read-steps .result) _ (c .read-steps .last .1 .1 .1 .1 .0) (rw (dc-is k) at (c .read-steps .ensures)))
+    rw (dc-is k) (coefficients-stored _ _ _ (told k) (c .read-steps .result) _ (c .read-steps .last .1 .1 .1 .1 .1 .0) (rw (dc-is k) at (c .read-steps .ensures)))
 
 returns-2 : tie.Need-returns-2
 returns-2 c =

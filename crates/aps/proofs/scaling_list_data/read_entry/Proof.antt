@@ -50,7 +50,7 @@ add-read-delta c = search needs
 read-delta-requires : tie.Need-read-delta-requires
 read-delta-requires c κs =
     let b = c .before .before .before .before .before .pre in
-    (b .0, copy-there (c .before), b .2)
+    (b .0, copy-there (c .before), b .2, b .3)
 
 enum-known-field : tie.Need-enum-known-field
 enum-known-field c = search needs
@@ -106,7 +106,7 @@ add-read-delta-2 c = search needs
 read-delta-requires-2 : tie.Need-read-delta-requires-2
 read-delta-requires-2 c κs =
     let b = c .before .before .before .before .before .before .before .before .pre in
-    (b .0, pred-there c, b .2)
+    (b .0, pred-there c, b .2, b .3)
 
 enum-known-field-3 : tie.Need-enum-known-field-3
 enum-known-field-3 c = search needs
@@ -141,7 +141,7 @@ module _ (c : tie.After-known-told3) where
 read-coefficients-requires : tie.Need-read-coefficients-requires
 read-coefficients-requires c κs =
     let b = start (c .before) .pre in
-    (b .0, near (c .before), b .2)
+    (b .0, near (c .before), b .2, b .3)
 
 enum-known-field-4 : tie.Need-enum-known-field-4
 enum-known-field-4 c = search needs
@@ -156,7 +156,7 @@ returns-5 c =
     let f = toZ-ofZ {w = w32} {z = r .read-coefficients .result .dc} (record { sfits = c .struct-told .given .1 .0 .1 }) in
     rw f
     (entry-stored _ _ _ _ (uncopied (read k .before)) (predicted (read k .before)) (told k)
-    (r .read-coefficients .result .stop) (r .read-coefficients .result .dc) _ (r .read-coefficients .last .1 .1 .1 .0) (r .read-coefficients .ensures))
+    (r .read-coefficients .result .stop) (r .read-coefficients .result .dc) _ (r .read-coefficients .last .1 .1 .1 .1 .0) (r .read-coefficients .ensures))
 
 returns-6 : tie.Need-returns-6
 returns-6 c =

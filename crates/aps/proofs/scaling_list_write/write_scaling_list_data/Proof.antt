@@ -10,38 +10,30 @@ use Rattle.aps.proofs.scaling_list_write.write_scaling_list_data.Statem
 use Rattle.aps.proofs.scaling_list_write.write_scaling_list_data.Tie as tie
 
 abbrev Inv-loop : tie.InvT-loop
-Inv-loop out₀ chroma copy pred delta dc list at₀ id₀ out at id =
-    (length out ≡ 4096)
-    × Listed chroma (record { «copy_mode_flag» = copy; «pred_mode_flag» = pred; «pred_id_delta» = delta; «dc_coef» = dc; «scaling_list» = list }) at₀ out₀ id at out
+Inv-loop out₀ chroma d at₀ id₀ out at id = (length out ≡ 4096) × Listed chroma d at₀ out₀ id at out
 
 abbrev μ-loop : tie.MeasureT-loop
-μ-loop out₀ chroma copy pred delta dc list at₀ id₀ out at id = 28 - id
+μ-loop out₀ chroma d at₀ id₀ out at id = 28 - id
 
 loop-holds : tie.Need-loop-holds Inv-loop μ-loop
-loop-holds c = (c .before .before .before .before .before .before .pre .0, listed-start _ _ _ _)
+loop-holds c = (c .before .pre .0, listed-start _ _ _ _)
 
-array-read-put-id : tie.Need-array-read-put-id Inv-loop μ-loop
-array-read-put-id c = search needs
+element-copy-out-copy : tie.Need-element-copy-out-copy Inv-loop μ-loop
+element-copy-out-copy c = search needs
 
-array-read-put-id-2 : tie.Need-array-read-put-id-2 Inv-loop μ-loop
-array-read-put-id-2 c = search needs
+element-copy-out-pred : tie.Need-element-copy-out-pred Inv-loop μ-loop
+element-copy-out-pred c = search needs
 
-mul-put-id : tie.Need-mul-put-id Inv-loop μ-loop
-mul-put-id c = search needs
+mul-delta : tie.Need-mul-delta Inv-loop μ-loop
+mul-delta c = search needs
 
-array-read-put-id-3 : tie.Need-array-read-put-id-3 Inv-loop μ-loop
-array-read-put-id-3 c = search needs
-
-slice-aggregate-put-id : tie.Need-slice-aggregate-put-id Inv-loop μ-loop
-slice-aggregate-put-id c = search needs
-
-slice-aggregate-put-id-2 : tie.Need-slice-aggregate-put-id-2 Inv-loop μ-loop
-slice-aggregate-put-id-2 c = search needs
+element-copy-out-delta : tie.Need-element-copy-out-delta Inv-loop μ-loop
+element-copy-out-delta c = search needs
 
 put-id-requires : tie.Need-put-id-requires Inv-loop μ-loop
 put-id-requires c κs =
-    let l = c .before .before .before .before in
-    let b = l .before .before .before .before .before .before .before in
+    let l = c .before .before .before .before .before .before .before .before .before .before in
+    let b = l .before .before in
     let o = l .loop in
     (o .inv .0, stops-more (o .at) (100 + 1116 * o .id) 31000 (o .inv .1 .near 100 (b .pre .1)) (omega arith), omega arith, search needs, search needs)
 
@@ -51,18 +43,18 @@ add-id c = omega arith
 loop-less : tie.Need-loop-less Inv-loop μ-loop
 loop-less c = omega arith
 
-sized : (c : tie.Start Inv-loop μ-loop) → length (c .args .d .«copy_mode_flag») ≡ 28
+sized : (c : tie.Start Inv-loop μ-loop) → length (c .args .t4 .«copy_mode_flag») ≡ 28
 sized c = search needs
 
 loop-again : tie.Need-loop-again Inv-loop μ-loop
 loop-again c =
     let k = c .before .before in
-    let t = k .before .before .before .before in
+    let t = k .before .before .before .before .before .before .before .before .before .before in
     let l = t .before in
-    (search needs, listed-more _ _ _ _ _ _ _ (l .loop .inv .1) _ _ (t .loop-test .taken) (sized (l .before .before .before .before .before .before .before)) (k .put-id .ensures))
+    (search needs, listed-more _ _ _ _ _ _ _ (l .loop .inv .1) _ _ (t .loop-test .taken) (sized (l .before .before)) (k .put-id .ensures))
 
 same-length : tie.Need-same-length Inv-loop μ-loop
-same-length c = c .before .loop .inv .0 ∙ sym (c .before .before .before .before .before .before .before .before .pre .0)
+same-length c = c .before .loop .inv .0 ∙ sym (c .before .before .before .pre .0)
 
 returns : tie.Need-returns Inv-loop μ-loop
 returns c = listed-done _ _ _ _ _ _ _ (c .before .loop .inv .1) (c .loop-test .left)
@@ -74,12 +66,10 @@ write-scaling-list-data-spec =
     Inv-loop
     μ-loop
     loop-holds
-    array-read-put-id
-    array-read-put-id-2
-    mul-put-id
-    array-read-put-id-3
-    slice-aggregate-put-id
-    slice-aggregate-put-id-2
+    element-copy-out-copy
+    element-copy-out-pred
+    mul-delta
+    element-copy-out-delta
     put-id-requires
     add-id
     loop-less
