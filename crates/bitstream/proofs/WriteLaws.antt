@@ -48,7 +48,7 @@ zeros-field a zero = refl
 zeros-field a (suc n) =
     let e : a * 2 ^ suc n ≡ a * 2 * 2 ^ n = rw (pow-suc 2 n, mul_comm (2 ^ n) 2, mul_assoc a 2 (2 ^ n)) in
     let z : a * 2 % 2 ≡ 0 = omega arith in
-    rw (e, shl-shr (a * 2) n, zeros-field (a * 2) n, z)
+    rw (e, shl-shr (a * 2) n, z) (ap (λ (t : List ℕ). 0 ∷ t) (ap (λ (v : ℕ). field_bits v n) e ∙ zeros-field (a * 2) n))
 
 -- ---- a field byte by byte
 

@@ -1,4 +1,6 @@
 // Library 1: bit fields and escapes, after src/bit_reader.rs, src/bit_writer.rs and src/nal.rs of the Rust.
+#![tactic(auto)]
+
 pub mod bit_reader;
 pub mod bit_writer;
 pub mod nal;

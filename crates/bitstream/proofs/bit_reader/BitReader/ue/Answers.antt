@@ -1,0 +1,115 @@
+-- `ue`: all zeros are those counted and those from q on; where the loop is left there are no more, and q is where the suffix begins.
+use borrow.Author.Tests.{lt-ltb, le-ltb}
+use Prim.Native.Nat.{ℕ, suc, ◌+◌, ◌-◌, ◌*◌, ◌≤◌, ◌<◌}
+use mathlib.Core.Path.{◌≡◌, ap, ◌∙◌}
+use mathlib.Core.List.{List}
+use native.Mathlib.Omega.{arith}
+use lib.ListN.{length}
+use lib.Pow.{pow_pos}
+use Rattle.bitstream.specs.Bits.{bit_at}
+use Rattle.bitstream.specs.Fields.{zeros_at, suffix_at, ue_value}
+use Rattle.bitstream.specs.Reading.{ue_at, ue_lacking}
+use Rattle.bitstream.proofs.ByteLaws.{one_shl}
+use Rattle.bitstream.proofs.FieldLaws.{bit-lt, one_bit, field_lt}
+use Rattle.bitstream.proofs.CodeLaws.{zeros-one, zeros-past, zeros-more, ue-lt}
+use Rattle.bitstream.proofs.CallLaws.{within-long, within-far, lacking-refused, ue-given, ue-not}
+use Rattle.bitstream.proofs.bit_reader.BitReader.ue.Goals as goal
+use Rattle.bitstream.proofs.bit_reader.BitReader.ue.Goals.{Joined-end-q, then-end-q, else-end-q+then-b-eq1}
+
+-- how the loop is left: z zeros in all, and the suffix begins at q
+record Counted (s : List ℕ) (p q z : ℕ) : Type 0 where
+  few : z < 32
+  near : q ≤ p + 32
+  all : zeros_at s p 32 ≡ z
+  begins : q ≡ suffix_at s p z
+
+counted : (c : Joined-end-q) → Counted c.args.bytes.now c.args.self.bit_pos c.if-end-q.q c.if-end-q.leading_zero_bits
+unfolding suffix_at
+counted c =
+    let s = c.args.bytes.now in
+    let e = c.args.self.bit_pos + c.if-end-q.leading_zero_bits in
+    let l = c.loop-q in
+    elim c.if-end-q.branch [
+      | then-end-q w ↦ record {
+        few = omega arith;
+        near = omega arith;
+        all = omega (arith, zeros-past s l.q (32 - l.zeros) (omega arith));
+        begins = rw (le-ltb e (length s * 8) (omega arith)) (omega arith);
+      }
+      | else-end-q+then-b-eq1 w ↦
+          let o : bit_at s l.q ≡ 1 = omega (arith, one_bit s l.q, w.narrow-b.ensures) in
+          record {
+            few = omega arith;
+            near = omega arith;
+            all = omega (arith, zeros-one s l.q (32 - l.zeros) o);
+            begins = rw (lt-ltb e (length s * 8) (omega arith)) (omega arith);
+          }
+    ]
+
+-- the bit that was read is one more zero
+one_more : (s : List ℕ) (p q z : ℕ) → z < 32 → q < length s * 8 → (bit_at s q ≡ 1 → ⊥) → zeros_at s p 32 ≡ z + zeros_at s q (32 - z)
+    → zeros_at s p 32 ≡ z + 1 + zeros_at s (q + 1) (32 - (z + 1))
+one_more s p q z h l not i =
+    let m = 32 - (z + 1) in
+    let a : 32 - z ≡ suc m = omega arith in
+    let b : suc q ≡ q + 1 = omega arith in
+    let o : bit_at s q ≡ 0 = omega (arith, one_bit s q, bit-lt s q, not) in
+    let e : zeros_at s q (32 - z) ≡ suc (zeros_at s (q + 1) m) = ap (zeros_at s q) a ∙ zeros-more s q m l o (ap (λ (x : ℕ). zeros_at s x m) b) in
+    omega (arith, e)
+
+pub returns-then-bytes-gt-LONGEST_INPUT : goal.returns-then-bytes-gt-LONGEST_INPUT
+unfolding ue_at ue_lacking
+returns-then-bytes-gt-LONGEST_INPUT c =
+    let r = lacking-refused _ c.refused_u.ensures (within-long _ _ _ c.if-bytes-gt-LONGEST_INPUT.true) in record { field = r.0; lacking = r.1 }
+
+pub returns-then-p-gt-LAST_START : goal.returns-then-p-gt-LAST_START
+unfolding ue_at ue_lacking
+returns-then-p-gt-LAST_START c =
+    let r = lacking-refused _ c.refused_u-then-p-gt-LAST_START.ensures (within-far _ _ _ c.if-bytes-gt-LONGEST_INPUT.false c.if-p-gt-LAST_START.true) in record { field = r.0; lacking = r.1 }
+
+pub returns-then-zeros-ge32 : goal.returns-then-zeros-ge32
+returns-then-zeros-ge32 c =
+    let l = c.loop-q in
+    let more = one_more c.args.bytes.now c.args.self.bit_pos l.q l.zeros (omega arith) (omega arith) (omega (arith, c.narrow-b.ensures, one_bit c.args.bytes.now l.q)) l.invariant.2 in
+    let r = ue-not c.args.bytes.now c.args.self.bit_pos c.if-bytes-gt-LONGEST_INPUT.false c.if-p-gt-LAST_START.false more (omega arith) c.refused_u-then-zeros-ge32.ensures in
+    record { field = r.0; lacking = r.1 }
+
+pub loop-q-preserved : goal.loop-q-preserved
+loop-q-preserved c =
+    let l = c.loop-q in
+    omega (arith, one_more c.args.bytes.now c.args.self.bit_pos l.q l.zeros (omega arith) (omega arith) (omega (arith, c.narrow-b.ensures, one_bit c.args.bytes.now l.q)) l.invariant.2)
+
+pub wide-suffix-requires : goal.wide-suffix-requires
+wide-suffix-requires c = omega (arith, (counted c).few, (counted c).near)
+
+pub overflow_add-after : goal.overflow_add-after
+overflow_add-after c =
+    let k = counted (goal.at.overflow_add-after c).Joined-end-q in
+    omega (arith, k.few, k.near)
+
+pub overflow_shl-code_num : goal.overflow_shl-code_num
+overflow_shl-code_num c = omega (arith, (counted (goal.at.overflow_shl-code_num c).Joined-end-q).few)
+
+pub overflow_sub-code_num : goal.overflow_sub-code_num
+overflow_sub-code_num c =
+    let k = counted (goal.at.overflow_sub-code_num c).Joined-end-q in
+    rw (one_shl 32 c.if-end-q.leading_zero_bits k.few) (pow_pos c.if-end-q.leading_zero_bits)
+
+pub overflow_add-code_num : goal.overflow_add-code_num
+unfolding ue_value
+overflow_add-code_num c =
+    let k = counted (goal.at.overflow_add-code_num c).Joined-end-q in
+    let z = c.if-end-q.leading_zero_bits in
+    rw (one_shl 32 z k.few) (omega (arith, ue-lt z c.wide-suffix.result k.few (rw c.wide-suffix.ensures (field_lt _ _ z))))
+
+pub overflow_mul-leading_zero_bits : goal.overflow_mul-leading_zero_bits
+overflow_mul-leading_zero_bits c = omega (arith, (counted (goal.at.overflow_mul-leading_zero_bits c).Joined-end-q).few)
+
+pub overflow_add-leading_zero_bits : goal.overflow_add-leading_zero_bits
+overflow_add-leading_zero_bits c = omega (arith, (counted (goal.at.overflow_add-leading_zero_bits c).Joined-end-q).few)
+
+pub returns : goal.returns
+returns c =
+    let k = counted (goal.at.returns c).Joined-end-q in
+    let r = ue-given c.args.bytes.now c.args.self.bit_pos c.if-bytes-gt-LONGEST_INPUT.false c.if-p-gt-LAST_START.false k.all k.few k.begins c.wide-suffix.ensures c.lacks_bits.ensures in
+    rw (one_shl 32 c.if-end-q.leading_zero_bits k.few) (record { field = r.0; lacking = r.1 })

@@ -1,0 +1,13 @@
+-- `four`: one byte after the other.
+use mathlib.Core.Path.{sym}
+use native.Mathlib.Omega.{arith}
+use Rattle.bitstream.proofs.FieldLaws.{field-byte, field-grow}
+use Rattle.bitstream.proofs.window.four.Goals as goal
+
+pub returns : goal.returns
+returns c =
+    let a = c.args in
+    let w₁ = field-byte a.bytes.now a.i _ c.byte.ensures in
+    let w₂ = field-grow a.bytes.now a.i 1 _ _ w₁ c.byte-2.ensures in
+    let w₃ = field-grow a.bytes.now a.i 2 _ _ w₂ c.byte-3.ensures in
+    (sym (field-grow a.bytes.now a.i 3 _ _ w₃ c.byte-4.ensures), omega arith)
