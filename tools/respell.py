@@ -75,7 +75,7 @@ def main(root):
     names = own_names(os.path.join(root, "crates"))
     for path, old, new in TOGETHER:
         path = os.path.join(root, path)
-        if os.path.exists(path):
+        if os.path.exists(path) and names:
             text = open(path, encoding="utf-8").read()
             write(path, text, re.sub(r"(?<![\w.'-])" + re.escape(old) + r"(?![\w'-])(?!\.)", new, text))
     for path in files(os.path.join(root, "crates"), (".antt",)):

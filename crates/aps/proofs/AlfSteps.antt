@@ -26,7 +26,6 @@ use Rattle.aps.specs.AlfSyntax as Alf
 use Rattle.aps.specs.declared.alf.AlfRead.{AlfRead}
 use Rattle.aps.specs.declared.alf.Signals.{Signals}
 use Rattle.aps.specs.declared.fields.Stop.{Stop}
-use Rattle.aps.specs.declared.fields.Stop.TheVariants as Stop
 use Rattle.aps.specs.Inner.{outcome_stop, luma_of, chroma_of, cc_of, alf_of, no_alf, after, alf_after}
 use Rattle.aps.proofs.Lawful.{Lawful, total}
 use Rattle.aps.proofs.FieldLaws.{u-law}

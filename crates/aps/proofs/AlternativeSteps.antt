@@ -16,7 +16,6 @@ use Rattle.aps.specs.AlfSyntax.{coefficient, alternative, alternatives, chroma_a
 use Rattle.aps.specs.declared.alf.VvcAlfChroma.{VvcAlfChroma}
 use Rattle.aps.specs.Inner.{outcome_stop, after, chroma_of}
 use Rattle.aps.specs.declared.fields.Stop.{Stop}
-use Rattle.aps.specs.declared.fields.Stop.TheVariants as Stop
 use Rattle.aps.proofs.EachLaws.{each_same}
 use Rattle.aps.proofs.ElementLaws.{joined-rows, length-rows}
 use Rattle.aps.proofs.PairLaws.{zipped-there, zipped-length, firsts-zipped, seconds-zipped}

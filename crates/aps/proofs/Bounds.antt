@@ -10,7 +10,6 @@ use Rattle.aps.specs.Codec.{Codec}
 use Rattle.aps.specs.Elements.{ue_to}
 use Rattle.aps.specs.Inner.{outcome_stop, after, StopsBy}
 use Rattle.aps.specs.declared.fields.Stop.{Stop}
-use Rattle.aps.specs.declared.fields.Stop.TheVariants as Stop
 use Rattle.aps.proofs.Lawful.{Lawful}
 use Rattle.aps.proofs.FieldLaws.{ue-law}
 use Rattle.aps.proofs.CodecLaws.{judged-law, inside}

@@ -78,16 +78,16 @@ coefficients-looked id dc l o =
     go true a = refl
     go false a = sym (eq_z-only dc (pos 0) a)
 
-abbrev last_ok_lem : ℕ → Bool → ℤ × List ℤ → Bool
-last_ok_lem id copy = (when (not copy) (no_pair (just (pos 0)) no_entries) (coefficients id)).ok
+abbrev last_ok : ℕ → Bool → ℤ × List ℤ → Bool
+last_ok id copy = (when (not copy) (no_pair (just (pos 0)) no_entries) (coefficients id)).ok
 
 -- the last part of an entry that is taken is taken
-last_ok_lem : (id : ℕ) (e : Entry) → (entry_syntax id).ok e ≡ true → last_ok_lem id e.0 e.1.1.1 ≡ true
+last_ok_lem : (id : ℕ) (e : Entry) → (entry_syntax id).ok e ≡ true → last_ok id e.0 e.1.1.1 ≡ true
 unfolding entry_syntax ◌▷◌
 last_ok_lem id e o =
     let p = (copy || pred) && not (eqb id 0 || eqb id 2 || eqb id 8) in
     let d = (when p no_number (ue_to (max_id_delta id))).ok e.1.1.0 in
-    let r = last_ok_lem id copy e.1.1.1 in
+    let r = last_ok id copy e.1.1.1 in
     let f = (when (not copy) no_flag flag).ok pred in
     and_right d r (and_right f (d && r) (and_right (flag.ok copy) (f && (d && r)) o))
   where
@@ -98,7 +98,7 @@ last_ok_lem id e o =
     pred = e.1.0
 
 -- what is looked at of the last part, copied or not
-last-looked : (id : ℕ) (copy : Bool) (x : ℤ × List ℤ) → last_ok_lem id copy x ≡ true
+last-looked : (id : ℕ) (copy : Bool) (x : ℤ × List ℤ) → last_ok id copy x ≡ true
     → ◌≡◌ {A = ℤ × List ℤ} (cond copy (pos 0, []) (cond (ltb 13 id) x.0 (pos 0), take (entries id) (filled x.1))) x
 unfolding when
 last-looked id true x o = sym ((no_pair-is (just-is (pos 0)) no_entries-is).only x o)

@@ -22,7 +22,6 @@ use Rattle.aps.specs.Elements.{flag, ue_to, se, se_in, no_flag, signed}
 use Rattle.aps.specs.AlfSyntax.{coefficient}
 use Rattle.aps.specs.Inner.{outcome_stop, after, writes, Wrote, unsent}
 use Rattle.aps.specs.declared.fields.Stop.{Stop}
-use Rattle.aps.specs.declared.fields.Stop.TheVariants as Stop
 use Rattle.aps.proofs.CodecLaws.{and_both}
 use Rattle.aps.proofs.ElementLaws.{zeros-mono, ue-most, flag-most}
 use Rattle.aps.proofs.SignedLaws.{not_lt_z}

@@ -16,7 +16,7 @@ use Rattle.bitstream.proofs.HoldLaws.{bits-append, bits-trailing, holds-append, 
 use Rattle.bitstream.proofs.RoundTrip.{trailing-holds, trailing_exact}
 use Rattle.bitstream.proofs.LocalLaws.{same-append}
 use Rattle.bitstream.proofs.PackLaws.{length-pack}
-use Rattle.aps.specs.Kinds.{largest_id, most_bytes_lem}
+use Rattle.aps.specs.Kinds.{largest_id, most_bytes}
 use Rattle.aps.specs.ApsSyntax.{number_of, aps, inferred}
 use Rattle.aps.specs.Rbsp.{closed, read_rbsp, rbsp_bits, rbsp_bytes}
 use Rattle.aps.specs.declared.aps.ApsKind.{ApsKind}
@@ -174,13 +174,13 @@ module _ (s : List ℕ) (a : VvcAps) (q : ℕ) (e : read_rbsp s ≡ value a q) w
       pack-is (rbsp_bits a) (bits-rbsp a (rbsp-sound s a q e).0) s (q / 8) y (rw f at h) (omega (arith, rw f at n, length-rbsp a)) (omega (arith, rbsp-end))
 
 -- the most bytes that a set of each kind takes
-most_bytes_lem : (k : ApsKind) (n m : ℕ) → n ≤ 10 + payload_bits (number_of k) → m ≤ n + (8 - n % 8) → m ≤ 8 * most_bytes_lem (number_of k)
+most_bytes_lem : (k : ApsKind) (n m : ℕ) → n ≤ 10 + payload_bits (number_of k) → m ≤ n + (8 - n % 8) → m ≤ 8 * most_bytes (number_of k)
 most_bytes_lem ApsKind.Alf n m h l = omega arith
 most_bytes_lem ApsKind.Lmcs n m h l = omega arith
 most_bytes_lem ApsKind.Scaling n m h l = omega arith
 
 -- a set that is read ends within the most bytes of its kind
-pub read-most : (s : List ℕ) (a : VvcAps) (q : ℕ) → read_rbsp s ≡ value a q → q ≤ 8 * most_bytes_lem (number_of a.kind)
+pub read-most : (s : List ℕ) (a : VvcAps) (q : ℕ) → read_rbsp s ≡ value a q → q ≤ 8 * most_bytes (number_of a.kind)
 read-most s a q e = most_bytes_lem a.kind (length (aps.emit a)) q (aps-most a (rbsp-sound s a q e).0) (go a.aps_extension_flag refl)
   where
     go : (b : Bool) → a.aps_extension_flag ≡ b → q ≤ length (aps.emit a) + (8 - length (aps.emit a) % 8)
@@ -211,7 +211,7 @@ module _ (a : VvcAps) (o : aps.ok a ≡ true) where
   rbsp-some = omega (arith, length-bytes, length-rbsp a)
 
   -- and at most 832, 37 and 2,931 by kind
-  pub rbsp-most : length (rbsp_bytes a) ≤ most_bytes_lem (number_of a.kind)
+  pub rbsp-most : length (rbsp_bytes a) ≤ most_bytes (number_of a.kind)
   rbsp-most = omega (arith, length-bytes, most_bytes_lem a.kind (length (aps.emit a)) (length (rbsp_bits a)) (aps-most a o) (omega (arith, length-rbsp a)))
 
   -- the stop bit

@@ -20,7 +20,6 @@ use Rattle.aps.specs.Elements.{flag, se, se_in, no_flag, no_pair}
 use Rattle.aps.specs.Inner.{stored_list, stored, outcome_stop}
 use Rattle.aps.specs.ScalingSyntax.{skipped, entries, max_id_delta, id_coded, just, step, step_at, sums, cons, Entry, coefficients, dc_at, delta_sent, delta_at, no_entries, no_entry, entry_syntax, id_at}
 use Rattle.aps.specs.declared.fields.Stop.{Stop}
-use Rattle.aps.specs.declared.fields.Stop.TheVariants as Stop
 use Rattle.aps.proofs.Gives.{Gives, given, gives_then, gives-▷, gives-when}
 use Rattle.aps.proofs.Bounds.{ue_to-any}
 use Rattle.aps.proofs.CodecLaws.{when-law, inside}

@@ -8,7 +8,6 @@ use Rattle.bitstream.specs.Outcome.{value, refused}
 use Rattle.aps.specs.Codec.{Codec, via, Inferred, when}
 use Rattle.aps.specs.Inner.{outcome_stop, after, StopsBy, Spans, Wrote, unsent}
 use Rattle.aps.specs.declared.fields.Stop.{Stop}
-use Rattle.aps.specs.declared.fields.Stop.TheVariants as Stop
 use Rattle.aps.proofs.Steps.{when-ok}
 use Rattle.aps.proofs.StopLaws.{stops-more}
 use Rattle.aps.proofs.WriteSteps.{wrote-bad, wrote-more, wrote-when, wrote_none, wrote-via}

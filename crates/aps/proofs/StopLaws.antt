@@ -8,7 +8,6 @@ use Rattle.bitstream.proofs.CodeLaws.{value-refused}
 use Rattle.aps.specs.Codec.{Codec, ◌▷◌}
 use Rattle.aps.specs.Inner.{outcome_stop, after, StopsBy}
 use Rattle.aps.specs.declared.fields.Stop.{Stop}
-use Rattle.aps.specs.declared.fields.Stop.TheVariants as Stop
 
 pub after-end : {A : Type 0} {from : Stop} {p : ℕ} (f : ℕ → Outcome A) → from ≡ Stop.End p → after from f ≡ f p
 after-end f e = ap (λ (t : Stop). after t f) e

@@ -11,7 +11,6 @@ use lib.Seq.{take-append_seam, take_all}
 use Rattle.bitstream.specs.Outcome.{value, refused}
 use Rattle.bitstream.specs.Escapes.{outcome_size, put_bytes, ebsp_to_rbsp}
 use Rattle.bitstream.specs.declared.nal.Size.{Size}
-use Rattle.bitstream.specs.declared.nal.Size.TheVariants as Size
 use Rattle.bitstream.proofs.CodeLaws.{value-refused}
 use Rattle.bitstream.proofs.EscapeLaws.{unescape-most}
 use Rattle.aps.specs.Rbsp.{read_rbsp, parse_aps_rbsp}

@@ -11,7 +11,6 @@ use Rattle.bitstream.specs.Outcome.{Outcome, value, refused, number, ◌then◌}
 use Rattle.bitstream.specs.Bits.{put_bits}
 use Rattle.bitstream.specs.Writing.{outcome_w}
 use Rattle.bitstream.specs.declared.bit_writer.Written.{Written}
-use Rattle.bitstream.specs.declared.bit_writer.Written.TheVariants as Written
 use Rattle.bitstream.specs.declared.Refusal.{Refusal}
 use Rattle.bitstream.specs.declared.Refusal.TheVariants.{InvalidData}
 use Rattle.bitstream.proofs.CodeLaws.{value-refused}
@@ -19,7 +18,6 @@ use Rattle.bitstream.proofs.WriteLaws.{puts-append}
 use Rattle.aps.specs.Codec.{Codec, ◌▷◌, via, judged, Inferred, when, each_from, each, provided}
 use Rattle.aps.specs.Inner.{outcome_stop, after, Spans, writes, Wrote, unsent}
 use Rattle.aps.specs.declared.fields.Stop.{Stop}
-use Rattle.aps.specs.declared.fields.Stop.TheVariants as Stop
 use Rattle.aps.proofs.StopLaws.{after_same, after-end}
 
 -- ---- how each piece is written

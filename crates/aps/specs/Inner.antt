@@ -8,7 +8,6 @@ use Rattle.bitstream.specs.Windows.{IsWindow}
 use Rattle.bitstream.specs.declared.Refusal.{Refusal}
 use Rattle.bitstream.specs.declared.Refusal.TheVariants.{InvalidData}
 use Rattle.bitstream.specs.declared.nal.Size.{Size}
-use Rattle.bitstream.specs.declared.nal.Size.TheVariants as Size
 use Rattle.aps.specs.Codec.{Codec}
 use Rattle.aps.specs.Elements.{flag}
 use Rattle.aps.specs.LmcsSyntax.{LmcsHead, lmcs_codewords, lmcs_chroma, to_lmcs}
@@ -18,7 +17,6 @@ use Rattle.aps.specs.ApsSyntax.{zero_alf, zero_lmcs, zero_scaling}
 use Rattle.aps.specs.Rbsp.{closed, read_rbsp, parse_aps_rbsp}
 use Rattle.aps.specs.Reading.{outcome_read, set_given, head_of}
 use Rattle.aps.specs.declared.fields.Stop.{Stop}
-use Rattle.aps.specs.declared.fields.Stop.TheVariants as Stop
 use Rattle.aps.specs.declared.fields.SignedField.{SignedField}
 use Rattle.aps.specs.declared.fields.SignedField.TheVariants as Signed
 use Rattle.aps.specs.declared.windows.Window.{Window}
@@ -41,7 +39,6 @@ use Rattle.aps.specs.declared.aps.ApsOutcome.{ApsOutcome}
 use Rattle.aps.specs.declared.aps.ApsHead.{ApsHead}
 use Rattle.aps.specs.declared.aps.HeadReading.{HeadReading}
 use Rattle.aps.specs.declared.aps.Opening.{Opening}
-use Rattle.aps.specs.declared.aps.Opening.TheVariants as Opening
 use Rattle.aps.specs.declared.alf_set.AlfAnswer.{AlfAnswer}
 use Rattle.aps.specs.declared.alf_set.AlfReading.{AlfReading}
 use Rattle.aps.specs.declared.lmcs_set.LmcsAnswer.{LmcsAnswer}
@@ -49,7 +46,6 @@ use Rattle.aps.specs.declared.lmcs_set.LmcsReading.{LmcsReading}
 use Rattle.aps.specs.declared.scaling_set.ScalingReading.{ScalingReading}
 use Rattle.aps.specs.declared.aps.VvcAps.{VvcAps}
 use Rattle.aps.specs.declared.unit.Admission.{Admission}
-use Rattle.aps.specs.declared.unit.Admission.TheVariants as Admission
 
 -- ---- a run of fields goes on where the one before it ended, and a refusal stays
 

@@ -15,7 +15,7 @@ use bitstream::Refusal;
 use bitstream::short_codes::short_codes;
 
 // Luma filters: row r of the flat arrays is at 12 * r. In this order of fields there is no gap to copy.
-#[derive(Drop)]
+#[derive(Clone, Copy)]
 pub struct VvcAlfLuma {
     pub alf_luma_num_filters_signalled_minus1: u32,
     pub coeff_abs: [u32; 300],
@@ -26,7 +26,7 @@ pub struct VvcAlfLuma {
 }
 
 // Chroma alternatives: row r of the flat arrays is at 6 * r.
-#[derive(Drop)]
+#[derive(Clone, Copy)]
 pub struct VvcAlfChroma {
     pub alf_chroma_clip_flag: bool,
     pub alf_chroma_num_alt_filters_minus1: u32,
@@ -36,14 +36,14 @@ pub struct VvcAlfChroma {
 }
 
 // Cross-component filters of Cb or Cr: row r of the flat arrays is at 7 * r.
-#[derive(Drop)]
+#[derive(Clone, Copy)]
 pub struct VvcAlfCcFilters {
     pub filters_signalled_minus1: u32,
     pub mapped_coeff_abs: [u8; 28],
     pub coeff_sign: [bool; 28],
 }
 
-#[derive(Drop)]
+#[derive(Clone, Copy)]
 pub struct VvcAlfData {
     pub alf_luma_filter_signal_flag: bool,
     pub alf_chroma_filter_signal_flag: bool,
@@ -56,20 +56,20 @@ pub struct VvcAlfData {
 }
 
 // What reading gives beside the arrays that it fills: with a stop that is an end they hold what was read.
-#[derive(Drop)]
+#[derive(Clone, Copy)]
 pub(crate) struct FiltersRead {
     pub(crate) stop: Stop,
     pub(crate) clip: bool,
     pub(crate) count_minus1: u32,
 }
 
-#[derive(Drop)]
+#[derive(Clone, Copy)]
 pub(crate) struct CcRead {
     pub(crate) stop: Stop,
     pub(crate) count_minus1: u32,
 }
 
-#[derive(Drop)]
+#[derive(Clone, Copy)]
 pub(crate) struct AlfRead {
     pub(crate) stop: Stop,
     pub(crate) luma: bool,
@@ -333,7 +333,7 @@ fn read_alf_filters(
 }
 
 // The four flags.
-#[derive(Drop)]
+#[derive(Clone, Copy)]
 struct Signals {
     stop: Stop,
     luma: bool,

@@ -15,7 +15,7 @@ use bitstream::Refusal;
 use bitstream::bit_reader::FieldU;
 
 // One alternative: its coefficients and its clips.
-#[derive(Drop)]
+#[derive(Clone, Copy)]
 struct Alternative {
     stop: Stop,
     abs: [u32; 6],

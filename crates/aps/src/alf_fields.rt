@@ -93,7 +93,7 @@ fn read_coefficient(bytes: &[u8], codes: &[u16; 512], p: usize) -> SignedField
 }
 
 // A coefficient and the window after it.
-#[derive(Drop)]
+#[derive(Clone, Copy)]
 enum HeldCoefficient {
     Value { abs: u32, sign: bool, next: Window },
     Refused(Refusal),

@@ -19,7 +19,7 @@ use crate::scaling_set::scaling_head;
 use bitstream::Refusal;
 
 // The answer for an ALF set but for the arrays; a refusal's set is the empty set.
-#[derive(Drop)]
+#[derive(Clone, Copy)]
 struct AlfAnswer {
     outcome: ApsOutcome,
     head: ApsHead,
@@ -216,7 +216,7 @@ pub(crate) fn alf_head(bytes: &[u8], id: u8, chroma: bool) -> HeadReading
 }
 
 // What reading gives of an ALF set; of a set of another kind the head.
-#[derive(Drop)]
+#[derive(Clone, Copy)]
 pub struct AlfReading {
     pub outcome: ApsOutcome,
     pub head: ApsHead,

@@ -15,7 +15,7 @@ use crate::scaling_set::{ScalingReading, scaling_alone, scaling_head};
 use bitstream::{LONGEST_INPUT, Refusal};
 
 // aps_params_type.
-#[derive(Drop)]
+#[derive(Clone, Copy)]
 pub enum ApsKind {
     Alf,
     Lmcs,
@@ -23,7 +23,7 @@ pub enum ApsKind {
 }
 
 // Each kind's number, its largest id and the most bytes of its RBSP.
-#[derive(Drop)]
+#[derive(Clone, Copy)]
 pub struct Alf;
 
 impl Alf {
@@ -34,7 +34,7 @@ impl Alf {
     pub const MAX_BYTES: usize = 832;
 }
 
-#[derive(Drop)]
+#[derive(Clone, Copy)]
 pub struct Lmcs;
 
 impl Lmcs {
@@ -45,7 +45,7 @@ impl Lmcs {
     pub const MAX_BYTES: usize = 37;
 }
 
-#[derive(Drop)]
+#[derive(Clone, Copy)]
 pub struct Scaling;
 
 impl Scaling {
@@ -68,7 +68,7 @@ pub fn number_of(kind: ApsKind) -> u8
 }
 
 // A set: its kind beside the arrays of all three; those of the other two are 0 when it was read.
-#[derive(Drop)]
+#[derive(Clone, Copy)]
 pub struct VvcAps {
     pub kind: ApsKind,
     pub aps_adaptation_parameter_set_id: u8,
@@ -80,21 +80,21 @@ pub struct VvcAps {
 }
 
 // The bit where reading ended, or why there is no set.
-#[derive(Drop)]
+#[derive(Clone, Copy)]
 pub enum ApsOutcome {
     Read(usize),
     Refused(Refusal),
 }
 
 // What reading gives; a refusal's set is the empty set.
-#[derive(Drop)]
+#[derive(Clone, Copy)]
 pub struct ApsReading {
     pub outcome: ApsOutcome,
     pub set: VvcAps,
 }
 
 // A set without its arrays.
-#[derive(Drop)]
+#[derive(Clone, Copy)]
 pub struct ApsHead {
     pub kind: ApsKind,
     pub aps_adaptation_parameter_set_id: u8,
@@ -103,7 +103,7 @@ pub struct ApsHead {
 }
 
 // A refusal's head is the empty set's.
-#[derive(Drop)]
+#[derive(Clone, Copy)]
 pub struct HeadReading {
     pub outcome: ApsOutcome,
     pub head: ApsHead,
@@ -156,7 +156,7 @@ pub(crate) fn refuse_head(why: Refusal) -> HeadReading
 }
 
 // The kind that the first bits name, with id and chroma flag, or why there is no set.
-#[derive(Drop)]
+#[derive(Clone, Copy)]
 pub(crate) enum Opening {
     Alf { id: u8, chroma: bool },
     Lmcs { id: u8, chroma: bool },

@@ -25,7 +25,7 @@ fn read_end(bytes: &[u8], p: usize, extension: bool) -> ApsOutcome
 }
 
 // The extension flag, and where the RBSP ends or why there is no set.
-#[derive(Drop)]
+#[derive(Clone, Copy)]
 pub(crate) struct Ending {
     pub(crate) outcome: ApsOutcome,
     pub(crate) extension: bool,

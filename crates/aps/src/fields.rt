@@ -15,14 +15,14 @@ use bitstream::short_codes::code_by_table;
 use bitstream::window::window_alone;
 
 // Where a run of fields ended, or why it was refused.
-#[derive(Drop)]
+#[derive(Clone, Copy)]
 pub(crate) enum Stop {
     End(usize),
     Refused(Refusal),
 }
 
 // A magnitude, its sign and the bit after them.
-#[derive(Drop)]
+#[derive(Clone, Copy)]
 pub(crate) enum SignedField {
     Value { abs: u32, sign: bool, next: usize },
     Refused(Refusal),

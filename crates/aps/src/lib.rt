@@ -1,4 +1,6 @@
 // Library 2: adaptation parameter sets (H.266 7.3.2.6) read and written, after src/h266/aps.rs of the Rust.
+#![tactic(auto)]
+
 pub mod alf;
 mod alf_chroma;
 mod alf_chroma_write;

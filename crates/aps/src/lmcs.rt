@@ -9,7 +9,7 @@ use crate::windows::{held_signed, window_at};
 use bitstream::Refusal;
 use bitstream::bit_reader::FieldU;
 
-#[derive(Drop)]
+#[derive(Clone, Copy)]
 pub struct VvcLmcsData {
     pub lmcs_min_bin_idx: u32,
     pub lmcs_delta_max_bin_idx: u32,
@@ -21,7 +21,7 @@ pub struct VvcLmcsData {
 }
 
 // What reading gives beside the two arrays that it fills: with a stop that is an end they hold what was read.
-#[derive(Drop)]
+#[derive(Clone, Copy)]
 pub(crate) struct LmcsRead {
     pub(crate) stop: Stop,
     pub(crate) min: u32,
@@ -32,7 +32,7 @@ pub(crate) struct LmcsRead {
 }
 
 // The three values that say which bins are coded, and how wide.
-#[derive(Drop)]
+#[derive(Clone, Copy)]
 struct Head {
     stop: Stop,
     min: u32,

@@ -16,7 +16,7 @@ use crate::scaling_set::scaling_head;
 use bitstream::Refusal;
 
 // The answer for an LMCS set but for the arrays; a refusal's set is the empty set.
-#[derive(Drop)]
+#[derive(Clone, Copy)]
 struct LmcsAnswer {
     outcome: ApsOutcome,
     head: ApsHead,
@@ -91,7 +91,7 @@ pub(crate) fn lmcs_head(bytes: &[u8], id: u8, chroma: bool) -> HeadReading
 }
 
 // What reading gives of an LMCS set; of a set of another kind the head.
-#[derive(Drop)]
+#[derive(Clone, Copy)]
 pub struct LmcsReading {
     pub outcome: ApsOutcome,
     pub head: ApsHead,

@@ -9,7 +9,7 @@ pub const NAL_TYPE_PREFIX_APS: u8 = 17;
 
 pub const NAL_TYPE_SUFFIX_APS: u8 = 18;
 
-#[derive(Drop)]
+#[derive(Clone, Copy)]
 pub struct VvcNalHeader {
     pub forbidden_zero_bit: u8,
     pub nuh_reserved_zero_bit: u8,
@@ -18,7 +18,7 @@ pub struct VvcNalHeader {
     pub nuh_temporal_id_plus1: u8,
 }
 
-#[derive(Drop)]
+#[derive(Clone, Copy)]
 pub enum HeaderRead {
     Header(VvcNalHeader),
     Refused(Refusal),

@@ -4,7 +4,7 @@ ghost use Rattle.aps.specs.ScalingSyntax.{skipped, matrix_size, entries, max_id_
 ghost use Rattle.aps.specs.ApsSyntax.{zero_scaling};
 
 // List id is at 64 * id of the flat array, in the order of the diagonal scan.
-#[derive(Drop)]
+#[derive(Clone, Copy)]
 pub struct VvcScalingListData {
     pub copy_mode_flag: [bool; 28],
     pub pred_mode_flag: [bool; 28],

@@ -18,14 +18,14 @@ use bitstream::bit_reader::{BitReader, FieldS, FieldU};
 use bitstream::short_codes::{code_by_table, short_codes};
 
 // The DC of one id; its list is stored in the flat array.
-#[derive(Drop)]
-struct CoefficientsRead {
+#[derive(Clone, Copy)]
+pub(crate) struct CoefficientsRead {
     stop: Stop,
     dc: i32,
 }
 
 // One id; its list is stored in the flat array.
-#[derive(Drop)]
+#[derive(Clone, Copy)]
 struct IdRead {
     stop: Stop,
     copy: bool,
@@ -55,7 +55,7 @@ fn read_se8(bytes: &[u8], codes: &[u16; 512], p: usize) -> FieldS
 }
 
 // A sum and the window after it.
-#[derive(Drop)]
+#[derive(Clone, Copy)]
 enum HeldSum {
     Value(i32, Window),
     Refused(Refusal),

@@ -97,7 +97,7 @@ pub(crate) fn scaling_head(bytes: &[u8], id: u8, chroma: bool) -> HeadReading
 }
 
 // What reading gives of a scaling set; of a set of another kind the head.
-#[derive(Drop)]
+#[derive(Clone, Copy)]
 pub struct ScalingReading {
     pub outcome: ApsOutcome,
     pub head: ApsHead,

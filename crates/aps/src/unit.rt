@@ -20,7 +20,7 @@ pub fn is_aps(unit_type: u8) -> bool
 }
 
 // Whether a unit gets as far as its RBSP.
-#[derive(Drop)]
+#[derive(Clone, Copy)]
 pub(crate) enum Admission {
     Aps,
     Refused(Refusal),

@@ -7,7 +7,7 @@ ghost use Rattle.aps.specs.Inner.{Known, ends_at};
 use bitstream::window::window;
 
 // The `left` highest of `bits` are the next bits from bit `at` on, zeros past the end.
-#[derive(Drop)]
+#[derive(Clone, Copy)]
 pub(crate) struct Window {
     pub(crate) bits: u64,
     pub(crate) left: u64,
@@ -52,7 +52,7 @@ pub(crate) fn past(held: Window, n: u64, need: u64) -> Window
 }
 
 // A magnitude u(n), its sign if it is not 0, and the window after them; zeros past the end.
-#[derive(Drop)]
+#[derive(Clone, Copy)]
 pub(crate) struct HeldSigned {
     pub(crate) abs: u32,
     pub(crate) sign: bool,
@@ -84,7 +84,7 @@ fn sign_bits(abs: u32) -> u64
 }
 
 // u(n) and the window after it; zeros past the end.
-#[derive(Drop)]
+#[derive(Clone, Copy)]
 pub(crate) struct HeldBits {
     pub(crate) value: u32,
     pub(crate) next: Window,

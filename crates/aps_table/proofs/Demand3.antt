@@ -17,7 +17,7 @@ use Rattle.aps_table.specs.Taking.{Verdict, accept, pass, refuse, verdict, put, 
 use Rattle.aps_table.specs.Calls.{Call, stream, alone, Answer, counted, counting, units_taken, after_units, table_after, answer_to}
 use Rattle.aps_table.specs.List.{any_extended, list_due, write_list}
 use Rattle.aps_table.specs.Book.{no_entries, note, note_units, note_taken, enter, enters, book, last_accepted}
-use Rattle.aps_table.specs.Demand3.{runs, says, after, Alike, read_back_lem, Cut, Demand3}
+use Rattle.aps_table.specs.Demand3.{runs, says, after, Alike, read_back, Cut, Demand3}
 use Rattle.aps_table.proofs.StoreLaws.{stored, new-length, new_none}
 use Rattle.aps_table.proofs.UnitLaws.{accepted-read}
 use Rattle.aps_table.proofs.BookLaws.{in-names, all-names, book-last, Agree, agree-units, agree-enters, list-agree, filled-agree, none-extended, one-extended}
@@ -133,10 +133,10 @@ module _ (cs : List Call) (l : List ℕ) (R : ReadBack (book cs) l) where
   written out = rw (list-after cs, R.due)
 
   -- reading the list gives the book's entries
-  back-agree : (n : ℕ) → length l ≤ n → Agree (held (read_back_lem l n)) (book cs)
+  back-agree : (n : ℕ) → length l ≤ n → Agree (held (read_back l n)) (book cs)
   back-agree n h k i m = call-agree (stream l n) new_table new-length k i m ∙ R.read n h (held new_table) new-agree k i m
 
-  both-agree : (n : ℕ) → length l ≤ n → Agree (held (after cs)) (held (read_back_lem l n))
+  both-agree : (n : ℕ) → length l ≤ n → Agree (held (after cs)) (held (read_back l n))
   both-agree n h k i m = after-book cs k i m ∙ sym (back-agree n h k i m)
 
   cut_holds : Cut cs l
@@ -149,11 +149,11 @@ module _ (cs : List Call) (l : List ℕ) (R : ReadBack (book cs) l) where
     accepted = λ n h.
         R.accepted n h
         ∙ ap (λ (m : ℕ). counted (record { accepted = m; refused = 0; passed = 0 })) (sym (filled-agree names (held (after cs)) (book cs) all-names (after-book cs)));
-    looks = λ n h k i. lookup-agree (held (read_back_lem l n)) (last_accepted cs) (λ k i m. back-agree n h k i m ∙ book-last cs k i) k i;
-    alike = λ n h. agree-alike (after cs) (read_back_lem l n) (both-agree n h);
+    looks = λ n h k i. lookup-agree (held (read_back l n)) (last_accepted cs) (λ k i m. back-agree n h k i m ∙ book-last cs k i) k i;
+    alike = λ n h. agree-alike (after cs) (read_back l n) (both-agree n h);
     further = λ n h ds. (
-      says_same ds (after cs) (read_back_lem l n),
-      runs-alike ds (after cs) (read_back_lem l n) (after-length cs) (call_length (stream l n) new_table ∙ new-length) (both-agree n h),
+      says_same ds (after cs) (read_back l n),
+      runs-alike ds (after cs) (read_back l n) (after-length cs) (call_length (stream l n) new_table ∙ new-length) (both-agree n h),
     );
   }
 

@@ -19,7 +19,7 @@ fn skip_zeros(s: &[u8], from: usize) -> usize
 }
 
 // A unit goes on at a later place, or ends.
-#[derive(Drop)]
+#[derive(Clone, Copy)]
 pub(crate) enum Scan {
     On(usize),
     End(usize),
@@ -82,7 +82,7 @@ fn unit_end(s: &[u8], start: usize) -> usize
 }
 
 // What stands from a place on, outside of a unit: a unit, the end, or a byte that may not stand there.
-#[derive(Drop)]
+#[derive(Clone, Copy)]
 pub(crate) enum Next {
     Unit { start: usize, end: usize },
     End,

@@ -22,7 +22,7 @@ use aps::unit::{is_aps, parse_unit_head};
 use bitstream::{LONGEST_INPUT, Refusal};
 
 // What a unit alone comes to.
-#[derive(Drop)]
+#[derive(Clone, Copy)]
 pub enum UnitAnswer {
     Accepted,
     Passed,
@@ -30,34 +30,34 @@ pub enum UnitAnswer {
 }
 
 // How many units of a stream were accepted, refused and passed over.
-#[derive(Drop)]
+#[derive(Clone, Copy)]
 pub struct Counts {
     pub accepted: usize,
     pub refused: usize,
     pub passed: usize,
 }
 
-#[derive(Drop)]
+#[derive(Clone, Copy)]
 pub enum StreamAnswer {
     Counted(Counts),
     Refused(Refusal),
 }
 
-#[derive(Drop)]
+#[derive(Clone, Copy)]
 pub enum LookupOutcome {
     Found,
     Refused(Refusal),
 }
 
 // The set held; a refusal's set is the empty set.
-#[derive(Drop)]
+#[derive(Clone, Copy)]
 pub struct LookupAnswer {
     pub outcome: LookupOutcome,
     pub set: VvcAps,
 }
 
 // Of the set held its head; a refusal's is the empty set's.
-#[derive(Drop)]
+#[derive(Clone, Copy)]
 pub struct HeadLookup {
     pub outcome: LookupOutcome,
     pub head: ApsHead,

@@ -12,41 +12,41 @@ use crate::window::{Code, code_in, window_alone};
 use crate::{LAST_START, LONGEST_INPUT, Refusal};
 
 // A position in a byte slice, as a bit.
-#[derive(Drop)]
+#[derive(Clone, Copy)]
 pub struct BitReader {
     pub bit_pos: usize,
 }
 
 // An unsigned field and the position after it.
-#[derive(Drop)]
+#[derive(Clone, Copy)]
 pub enum FieldU {
     Value(u32, BitReader),
     Refused(Refusal),
 }
 
 // A signed field and the position after it.
-#[derive(Drop)]
+#[derive(Clone, Copy)]
 pub enum FieldS {
     Value(i32, BitReader),
     Refused(Refusal),
 }
 
 // An unsigned field as it was read, and whether bits were lacking.
-#[derive(Drop)]
+#[derive(Clone, Copy)]
 pub struct ReadU {
     pub field: FieldU,
     pub lacking: bool,
 }
 
 // A signed field as it was read, and whether bits were lacking.
-#[derive(Drop)]
+#[derive(Clone, Copy)]
 pub struct ReadS {
     pub field: FieldS,
     pub lacking: bool,
 }
 
 // The position after the stop bit and the padding.
-#[derive(Drop)]
+#[derive(Clone, Copy)]
 pub enum Trailing {
     Aligned(BitReader),
     Refused(Refusal),

@@ -8,7 +8,7 @@ ghost use Rattle.bitstream.specs.Writing.{outcome_w, put_at, write_bits_at, writ
 use crate::{LAST_START, Refusal};
 
 // The bit after a field that was written.
-#[derive(Drop)]
+#[derive(Clone, Copy)]
 pub enum Written {
     To(usize),
     Refused(Refusal),

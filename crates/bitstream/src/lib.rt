@@ -17,7 +17,7 @@ pub const LONGEST_INPUT: usize = 65536;
 pub const LAST_START: usize = 1048576;
 
 // Why a call refuses: document 01's numbers 1 to 6, in order.
-#[derive(Drop)]
+#[derive(Clone, Copy)]
 pub enum Refusal {
     UnexpectedEnd,
     InvalidData,

@@ -6,7 +6,7 @@ ghost use Rattle.bitstream.specs.Escapes.{zero_run, kept, escape, unescape, outc
 use crate::{LONGEST_INPUT, Refusal};
 
 // How many bytes were written.
-#[derive(Drop)]
+#[derive(Clone, Copy)]
 pub enum Size {
     Bytes(usize),
     Refused(Refusal),

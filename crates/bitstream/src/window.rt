@@ -70,7 +70,7 @@ pub fn window_alone(bytes: &[u8], p: usize) -> u64
 }
 
 // A ue at the start of a word: its value and its bits, or no bits.
-#[derive(Drop)]
+#[derive(Clone, Copy)]
 pub struct Code {
     pub value: u32,
     pub bits: u64,
