@@ -138,11 +138,13 @@ pub(crate) fn refuse(why: Refusal) -> ApsReading
 pub fn empty_head() -> ApsHead
     ensures { result ≡ head_of empty_set }
 {
+    let id = 0;
+    let extension = false;
     ApsHead {
         kind: ApsKind::Alf,
-        aps_adaptation_parameter_set_id: 0,
+        aps_adaptation_parameter_set_id: id,
         aps_chroma_present_flag: false,
-        aps_extension_flag: false,
+        aps_extension_flag: extension,
     }
 }
 

@@ -14,7 +14,6 @@ use Rattle.bitstream.specs.Outcome.{Outcome, value, refused, left, number, ◌th
 use Rattle.bitstream.specs.Escapes.{put_bytes}
 use Rattle.bitstream.specs.declared.Refusal.{Refusal}
 use Rattle.bitstream.specs.declared.nal.Size.{Size}
-use Rattle.bitstream.specs.declared.nal.Size.TheVariants as Size
 use Rattle.bitstream.proofs.CodeLaws.{value-refused}
 use Rattle.bitstream.proofs.EscapeLaws.{escape-most}
 use Rattle.bitstream.proofs.WriteLaws.{wrote}

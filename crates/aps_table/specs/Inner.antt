@@ -3,12 +3,9 @@ use Rattle.std.specs.Prelude.{ℕ, ◌+◌, ◌-◌, ◌*◌, ◌/◌, ◌≤◌
 use Rattle.std.proofs.Math.Option.{none, some}
 use Rattle.bitstream.specs.Outcome.{Outcome, value, refused, number}
 use Rattle.bitstream.specs.declared.nal.Size.{Size}
-use Rattle.bitstream.specs.declared.nal.Size.TheVariants as Size
 use Rattle.aps.specs.Kinds.{largest_id, most_bytes}
 use Rattle.aps_table.specs.declared.split.Next.{Next}
-use Rattle.aps_table.specs.declared.split.Next.TheVariants as Next
 use Rattle.aps_table.specs.declared.split.Scan.{Scan}
-use Rattle.aps_table.specs.declared.split.Scan.TheVariants as Scan
 use Rattle.aps_table.specs.Split.{Units, prepend, ended, gap, body}
 use Rattle.aps_table.specs.Places.{offset}
 

@@ -1,4 +1,6 @@
 // Library 3: the table of the sets in force, units and streams taken into it, and the list at a cut.
+#![tactic(auto)]
+
 pub mod list;
 pub mod places;
 mod split;

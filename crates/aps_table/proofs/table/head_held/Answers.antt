@@ -1,0 +1,47 @@
+-- `head_held`: what the bytes of the place are read as, then whether the set is its own.
+use mathlib.Core.Path.{◌≡◌, ap, ◌∙◌}
+use mathlib.Core.Bool.{◌&&◌}
+use lib.Dec.{eqb}
+use Rattle.bitstream.specs.Outcome.{Outcome}
+use Rattle.aps.specs.ApsSyntax.{number_of}
+use Rattle.aps.specs.Rbsp.{read_rbsp}
+use Rattle.aps.specs.Reading.{outcome_read, set_given}
+use Rattle.aps.specs.declared.aps.ApsHead.{ApsHead}
+use Rattle.aps.specs.declared.aps.ApsOutcome.{ApsOutcome}
+use Rattle.aps.specs.declared.aps.VvcAps.{VvcAps}
+use Rattle.aps.proofs.Answers.{answered}
+use Rattle.aps_table.specs.Places.{place_bytes, found_in, under, held}
+use Rattle.aps_table.proofs.PlaceSteps.{head-missing, head-found, under-other, under-own}
+use mathlib.Core.Bool.{not}
+use Rattle.aps_table.proofs.table.head_held.Goals as goal
+use Rattle.aps_table.proofs.table.head_held.Goals.{After-is_own}
+
+-- whether it is the place's own
+own : (c : After-is_own) → let a = set_given (read_rbsp (place_bytes c.args.table.now c.args.kind c.args.id)) in c.is_own.result ≡ (eqb (number_of a.kind) c.args.kind && eqb a.aps_adaptation_parameter_set_id c.args.id)
+own c =
+    let b = c.args in
+    c.is_own.ensures ∙ ap (λ (h : ApsHead). eqb (number_of h.kind) b.kind && eqb h.aps_adaptation_parameter_set_id b.id) c.read_place_head-reading.ensures.head
+
+pub returns-then-not-is_own : goal.returns-then-not-is_own
+unfolding held
+returns-then-not-is_own c =
+    let b = c.args in
+    let a = set_given (read_rbsp (place_bytes b.table.now b.kind b.id)) in
+    let e = answered (λ (o : ApsOutcome). outcome_read o a) c.in-Read.is c.read_place_head-reading.ensures.answer in
+    let r = head-missing c.no_head.result _ c.no_head.ensures (ap found_in (under-other b.kind b.id a e (own (goal.at.returns-then-not-is_own c).After-is_own) (ap not c.if-not-is_own.true))) in record { answer = r.0; head = r.1 }
+
+pub returns-else-not-is_own : goal.returns-else-not-is_own
+unfolding held
+returns-else-not-is_own c =
+    let b = c.args in
+    let a = set_given (read_rbsp (place_bytes b.table.now b.kind b.id)) in
+    let e = answered (λ (o : ApsOutcome). outcome_read o a) c.in-Read.is c.read_place_head-reading.ensures.answer in
+    let r = head-found c.read_place_head-reading.result.head a c.read_place_head-reading.ensures.head (ap found_in (under-own b.kind b.id a e (own (goal.at.returns-else-not-is_own c).After-is_own) (ap not c.if-not-is_own.false))) in record { answer = r.0; head = r.1 }
+
+pub returns-in-Refused : goal.returns-in-Refused
+unfolding held
+returns-in-Refused c =
+    let b = c.args in
+    let a = set_given (read_rbsp (place_bytes b.table.now b.kind b.id)) in
+    let e = answered (λ (o : ApsOutcome). outcome_read o a) c.in-Refused.is c.read_place_head-reading.ensures.answer in
+    let r = head-missing c.no_head-in-Refused.result _ c.no_head-in-Refused.ensures (ap (λ (o : Outcome VvcAps). found_in (under b.kind b.id o)) e) in record { answer = r.0; head = r.1 }
