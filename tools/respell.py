@@ -13,7 +13,7 @@ import os
 import re
 import sys
 
-PART = re.compile(r"[A-Za-z_][\w'₀-₉]*")
+PART = re.compile(r"(?<![\w'])[A-Za-z_][\w'₀-₉]*")
 HUMP = re.compile(r"(?<=[a-z0-9_])([A-Z])")
 STRING = re.compile(r'b?"(?:[^"\\]|\\.)*"|b?\'(?:[^\'\\]|\\.)\'')
 

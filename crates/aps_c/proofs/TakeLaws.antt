@@ -103,7 +103,7 @@ pub as_written : (z : ℤ) {v : ℤ} → v ≡ integer z → to_z w32 (of_z w32 
 as_written z e = rw e (go (between (negsuc 2147483647) (pos 2147483647) z) refl)
   where
     go : (b : Bool) → between (negsuc 2147483647) (pos 2147483647) z ≡ b → to_z w32 (of_z w32 (integer z)) ≡ integer z
-    go true h = to_z-of_z (rw (sym (integer-in z h)) (integer-fits z h))
+    go true h = to_z-of_z {w = w32} (rw (sym (integer-in z h)) (integer-fits z h))
     go false h = rw (sym (integer-out z h))
 
 -- `x == 1` of an i64
@@ -114,7 +114,7 @@ truth-is (negsuc n) f = ne_eqb (2 ^ 64 - suc n) 1 λ e. omega (arith, e, f.sfits
 
 -- an element of a lent array of i64, as it is read
 pub as_read : (z : ℤ) → mag z < 2 ^ 63 → to_z w64 (of_z w64 z) ≡ z
-as_read z h = to_z-of_z (record { sfits = h })
+as_read z h = to_z-of_z {w = w64} (record { sfits = h })
 
 -- ---- a loop that takes as many fields as an array has
 

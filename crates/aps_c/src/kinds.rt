@@ -13,8 +13,7 @@ use aps::write::{write_alf, write_lmcs, write_scaling};
 use bitstream::number;
 
 // An ALF set read by its own kind: whether there is a set, and the bit where reading it ended.
-#[unsafe(no_mangle)]
-pub extern "C" fn aps_alf_end(bytes: &[u8], end: &mut [u64; 1]) -> u32
+pub fn aps_alf_end(bytes: &[u8], end: &mut [u64; 1]) -> u32
     ensures code { result ≡ code (parse_aps_rbsp bytes.now) }
     ensures end { end.new ≡ place_left (parse_aps_rbsp bytes.now) end.old }
 {
@@ -24,8 +23,7 @@ pub extern "C" fn aps_alf_end(bytes: &[u8], end: &mut [u64; 1]) -> u32
 }
 
 // An ALF set read and written again by its own kind, and its length; 2 for a set of another kind.
-#[unsafe(no_mangle)]
-pub extern "C" fn aps_alf_rewrite(bytes: &[u8], out: &mut [u8], len: &mut [u64; 1]) -> u32
+pub fn aps_alf_rewrite(bytes: &[u8], out: &mut [u8], len: &mut [u64; 1]) -> u32
     ensures code { result ≡ code (rewrite_of ApsKind.Alf bytes.now out.old) }
     ensures out { out.new ≡ left out.old (rewrite_of ApsKind.Alf bytes.now out.old) }
     ensures len { len.new ≡ place_left (rewrite_of ApsKind.Alf bytes.now out.old) len.old }
@@ -50,8 +48,7 @@ pub extern "C" fn aps_alf_rewrite(bytes: &[u8], out: &mut [u8], len: &mut [u64; 
 }
 
 // An LMCS set read by its own kind: whether there is a set, and the bit where reading it ended.
-#[unsafe(no_mangle)]
-pub extern "C" fn aps_lmcs_end(bytes: &[u8], end: &mut [u64; 1]) -> u32
+pub fn aps_lmcs_end(bytes: &[u8], end: &mut [u64; 1]) -> u32
     ensures code { result ≡ code (parse_aps_rbsp bytes.now) }
     ensures end { end.new ≡ place_left (parse_aps_rbsp bytes.now) end.old }
 {
@@ -61,8 +58,7 @@ pub extern "C" fn aps_lmcs_end(bytes: &[u8], end: &mut [u64; 1]) -> u32
 }
 
 // An LMCS set read and written again by its own kind, and its length; 2 for a set of another kind.
-#[unsafe(no_mangle)]
-pub extern "C" fn aps_lmcs_rewrite(bytes: &[u8], out: &mut [u8], len: &mut [u64; 1]) -> u32
+pub fn aps_lmcs_rewrite(bytes: &[u8], out: &mut [u8], len: &mut [u64; 1]) -> u32
     ensures code { result ≡ code (rewrite_of ApsKind.Lmcs bytes.now out.old) }
     ensures out { out.new ≡ left out.old (rewrite_of ApsKind.Lmcs bytes.now out.old) }
     ensures len { len.new ≡ place_left (rewrite_of ApsKind.Lmcs bytes.now out.old) len.old }
@@ -87,8 +83,7 @@ pub extern "C" fn aps_lmcs_rewrite(bytes: &[u8], out: &mut [u8], len: &mut [u64;
 }
 
 // A scaling set read by its own kind: whether there is a set, and the bit where reading it ended.
-#[unsafe(no_mangle)]
-pub extern "C" fn aps_scaling_end(bytes: &[u8], end: &mut [u64; 1]) -> u32
+pub fn aps_scaling_end(bytes: &[u8], end: &mut [u64; 1]) -> u32
     ensures code { result ≡ code (parse_aps_rbsp bytes.now) }
     ensures end { end.new ≡ place_left (parse_aps_rbsp bytes.now) end.old }
 {
@@ -98,8 +93,7 @@ pub extern "C" fn aps_scaling_end(bytes: &[u8], end: &mut [u64; 1]) -> u32
 }
 
 // A scaling set read and written again by its own kind, and its length; 2 for a set of another kind.
-#[unsafe(no_mangle)]
-pub extern "C" fn aps_scaling_rewrite(bytes: &[u8], out: &mut [u8], len: &mut [u64; 1]) -> u32
+pub fn aps_scaling_rewrite(bytes: &[u8], out: &mut [u8], len: &mut [u64; 1]) -> u32
     ensures code { result ≡ code (rewrite_of ApsKind.Scaling bytes.now out.old) }
     ensures out { out.new ≡ left out.old (rewrite_of ApsKind.Scaling bytes.now out.old) }
     ensures len { len.new ≡ place_left (rewrite_of ApsKind.Scaling bytes.now out.old) len.old }

@@ -1,4 +1,6 @@
 // The calls of aps for C or Rust to link: 0 with the answer in the lent arrays, or a refusal's number with the arrays as they were.
+#![tactic(auto)]
+
 ghost use Rattle.std.specs.Prelude.{◌≡◌, List, ℕ, length};
 ghost use Rattle.std.proofs.lemmas.List.Edits.{sets};
 ghost use Rattle.bitstream.specs.Outcome.{left};
@@ -51,8 +53,7 @@ fn put_header(h: VvcNalHeader, header: &mut [u8; 5])
     header[4] = h.nuh_temporal_id_plus1;
 }
 
-#[unsafe(no_mangle)]
-pub extern "C" fn aps_parse_nal_header(unit: &[u8], header: &mut [u8; 5]) -> u32
+pub fn aps_parse_nal_header(unit: &[u8], header: &mut [u8; 5]) -> u32
     ensures code { result ≡ code (parse_nal_header unit.now) }
     ensures header { header.new ≡ header_left (parse_nal_header unit.now) header.old }
 {
@@ -65,8 +66,7 @@ pub extern "C" fn aps_parse_nal_header(unit: &[u8], header: &mut [u8; 5]) -> u32
     }
 }
 
-#[unsafe(no_mangle)]
-pub extern "C" fn aps_parse_rbsp(bytes: &[u8], set: &mut [i64; NUMBERS], end: &mut [u64; 1]) -> u32
+pub fn aps_parse_rbsp(bytes: &[u8], set: &mut [i64; NUMBERS], end: &mut [u64; 1]) -> u32
     ensures code { result ≡ code (parse_aps_rbsp bytes.now) }
     ensures set { set.new ≡ numbers_left (parse_aps_rbsp bytes.now) set.old }
     ensures end { end.new ≡ place_left (parse_aps_rbsp bytes.now) end.old }
@@ -89,8 +89,7 @@ pub(crate) fn ended(outcome: ApsOutcome, end: &mut [u64; 1]) -> u32
 }
 
 // Whether there is a set, and the bit where reading it ended.
-#[unsafe(no_mangle)]
-pub extern "C" fn aps_rbsp_end(bytes: &[u8], end: &mut [u64; 1]) -> u32
+pub fn aps_rbsp_end(bytes: &[u8], end: &mut [u64; 1]) -> u32
     ensures code { result ≡ code (parse_aps_rbsp bytes.now) }
     ensures end { end.new ≡ place_left (parse_aps_rbsp bytes.now) end.old }
 {
@@ -100,8 +99,7 @@ pub extern "C" fn aps_rbsp_end(bytes: &[u8], end: &mut [u64; 1]) -> u32
 }
 
 // The same for a unit.
-#[unsafe(no_mangle)]
-pub extern "C" fn aps_unit_end(unit: &[u8], work: &mut [u8], end: &mut [u64; 1]) -> u32
+pub fn aps_unit_end(unit: &[u8], work: &mut [u8], end: &mut [u64; 1]) -> u32
     ensures code { result ≡ code (parse_aps unit.now (length work.old)) }
     ensures end { end.new ≡ place_left (parse_aps unit.now (length work.old)) end.old }
     ensures work { work.new ≡ work_after unit.now work.old }
@@ -111,13 +109,7 @@ pub extern "C" fn aps_unit_end(unit: &[u8], work: &mut [u8], end: &mut [u64; 1])
     ended(outcome, end)
 }
 
-#[unsafe(no_mangle)]
-pub extern "C" fn aps_parse(
-    unit: &[u8],
-    work: &mut [u8],
-    set: &mut [i64; NUMBERS],
-    end: &mut [u64; 1],
-) -> u32
+pub fn aps_parse(unit: &[u8], work: &mut [u8], set: &mut [i64; NUMBERS], end: &mut [u64; 1]) -> u32
     ensures code { result ≡ code (parse_aps unit.now (length work.old)) }
     ensures set { set.new ≡ numbers_left (parse_aps unit.now (length work.old)) set.old }
     ensures end { end.new ≡ place_left (parse_aps unit.now (length work.old)) end.old }
@@ -141,8 +133,7 @@ pub(crate) fn sized(size: Size, len: &mut [u64; 1]) -> u32
 }
 
 // A set as an RBSP at the start of out, and its length.
-#[unsafe(no_mangle)]
-pub extern "C" fn aps_write(set: &[i64], out: &mut [u8], len: &mut [u64; 1]) -> u32
+pub fn aps_write(set: &[i64], out: &mut [u8], len: &mut [u64; 1]) -> u32
     ensures code { result ≡ code (write_numbers set.now out.old) }
     ensures out { out.new ≡ left out.old (write_numbers set.now out.old) }
     ensures len { len.new ≡ place_left (write_numbers set.now out.old) len.old }
@@ -154,13 +145,7 @@ pub extern "C" fn aps_write(set: &[i64], out: &mut [u8], len: &mut [u64; 1]) -> 
 }
 
 // A set as a unit at the start of out, and its length.
-#[unsafe(no_mangle)]
-pub extern "C" fn aps_write_nal(
-    set: &[i64],
-    unit_type: u8,
-    out: &mut [u8],
-    len: &mut [u64; 1],
-) -> u32
+pub fn aps_write_nal(set: &[i64], unit_type: u8, out: &mut [u8], len: &mut [u64; 1]) -> u32
     ensures code { result ≡ code (write_numbers_nal set.now unit_type out.old) }
     ensures out { out.new ≡ left out.old (write_numbers_nal set.now unit_type out.old) }
     ensures len { len.new ≡ place_left (write_numbers_nal set.now unit_type out.old) len.old }
@@ -172,8 +157,7 @@ pub extern "C" fn aps_write_nal(
 }
 
 // A set read from an RBSP and written again at the start of out, and its length.
-#[unsafe(no_mangle)]
-pub extern "C" fn aps_rewrite(bytes: &[u8], out: &mut [u8], len: &mut [u64; 1]) -> u32
+pub fn aps_rewrite(bytes: &[u8], out: &mut [u8], len: &mut [u64; 1]) -> u32
     ensures code { result ≡ code (rewrite bytes.now out.old) }
     ensures out { out.new ≡ left out.old (rewrite bytes.now out.old) }
     ensures len { len.new ≡ place_left (rewrite bytes.now out.old) len.old }
@@ -187,8 +171,7 @@ pub extern "C" fn aps_rewrite(bytes: &[u8], out: &mut [u8], len: &mut [u64; 1]) 
 }
 
 // Escapes removed, into out, and the length.
-#[unsafe(no_mangle)]
-pub extern "C" fn aps_ebsp_to_rbsp(src: &[u8], out: &mut [u8], len: &mut [u64; 1]) -> u32
+pub fn aps_ebsp_to_rbsp(src: &[u8], out: &mut [u8], len: &mut [u64; 1]) -> u32
     ensures code { result ≡ code (ebsp_to_rbsp src.now out.old) }
     ensures out { out.new ≡ left out.old (ebsp_to_rbsp src.now out.old) }
     ensures len { len.new ≡ place_left (ebsp_to_rbsp src.now out.old) len.old }
@@ -197,8 +180,7 @@ pub extern "C" fn aps_ebsp_to_rbsp(src: &[u8], out: &mut [u8], len: &mut [u64; 1
 }
 
 // Escapes put in, into out, and the length.
-#[unsafe(no_mangle)]
-pub extern "C" fn aps_rbsp_to_ebsp(src: &[u8], out: &mut [u8], len: &mut [u64; 1]) -> u32
+pub fn aps_rbsp_to_ebsp(src: &[u8], out: &mut [u8], len: &mut [u64; 1]) -> u32
     ensures code { result ≡ code (rbsp_to_ebsp src.now out.old) }
     ensures out { out.new ≡ left out.old (rbsp_to_ebsp src.now out.old) }
     ensures len { len.new ≡ place_left (rbsp_to_ebsp src.now out.old) len.old }

@@ -23,16 +23,14 @@ use bitstream::number;
 pub const PASSED_OVER: u32 = 256;
 
 // Every place empty, whatever the bytes were.
-#[unsafe(no_mangle)]
-pub extern "C" fn aps_table_new(table: &mut Table)
+pub fn aps_table_new(table: &mut Table)
     ensures { table.new ≡ new_table }
 {
     *table = new_table();
 }
 
 // A unit alone: 0 accepted, 256 passed over, or the refusal's number.
-#[unsafe(no_mangle)]
-pub extern "C" fn aps_take_unit(table: &mut Table, unit: &[u8], work: &mut [u8]) -> u32
+pub fn aps_take_unit(table: &mut Table, unit: &[u8], work: &mut [u8]) -> u32
     ensures code { result ≡ answer_code (answer_to (alone unit.now (length work.old))) }
     ensures table { table.new ≡ table_after (alone unit.now (length work.old)) table.old }
     ensures work { work.new ≡ work_after unit.now work.old }
@@ -53,8 +51,7 @@ fn put_counts(c: Counts, counts: &mut [u64; 3])
 }
 
 // A stream: how many units were accepted, refused and passed over.
-#[unsafe(no_mangle)]
-pub extern "C" fn aps_take_stream(
+pub fn aps_take_stream(
     table: &mut Table,
     bytes: &[u8],
     work: &mut [u8],
@@ -76,8 +73,7 @@ pub extern "C" fn aps_take_stream(
 }
 
 // The set held for a kind and an id, as numbers.
-#[unsafe(no_mangle)]
-pub extern "C" fn aps_lookup(table: &Table, kind: u8, id: u8, set: &mut [i64; NUMBERS]) -> u32
+pub fn aps_lookup(table: &Table, kind: u8, id: u8, set: &mut [i64; NUMBERS]) -> u32
     ensures code { result ≡ look_code (looked_up table.now kind id) }
     ensures set { set.new ≡ set_left (looked_up table.now kind id) set.old }
 {
@@ -106,8 +102,7 @@ fn put_flags(chroma: bool, extension: bool, flags: &mut [u8; 2])
 }
 
 // The chroma flag and the extension flag of the set held for a kind and an id.
-#[unsafe(no_mangle)]
-pub extern "C" fn aps_lookup_flags(table: &Table, kind: u8, id: u8, flags: &mut [u8; 2]) -> u32
+pub fn aps_lookup_flags(table: &Table, kind: u8, id: u8, flags: &mut [u8; 2]) -> u32
     ensures code { result ≡ look_code (looked_up table.now kind id) }
     ensures flags { flags.new ≡ flags_left (looked_up table.now kind id) flags.old }
 {
@@ -124,8 +119,7 @@ pub extern "C" fn aps_lookup_flags(table: &Table, kind: u8, id: u8, flags: &mut 
 }
 
 // The list at a cut at the start of out, and its length.
-#[unsafe(no_mangle)]
-pub extern "C" fn aps_write_list(table: &Table, out: &mut [u8], len: &mut [u64; 1]) -> u32
+pub fn aps_write_list(table: &Table, out: &mut [u8], len: &mut [u64; 1]) -> u32
     ensures code { result ≡ code (write_list table.now out.old) }
     ensures out { out.new ≡ left out.old (write_list table.now out.old) }
     ensures len { len.new ≡ place_left (write_list table.now out.old) len.old }

@@ -10,7 +10,7 @@ use Rattle.bitstream.specs.Bits.{bit_at, field_at, field_bits, put_in_byte, put_
 use Rattle.bitstream.specs.Fields.{read_u, read_ue, read_se, read_trailing, zero_at, zeros_at, suffix_at, ue_value, ue_from, se_value, ue_zeros, ue_bits, trailing_value, trailing_width}
 
 abbrev pub codes : List ℕ
-codes = 0xa6 ∷ 0x42 ∷ 0x98 ∷ 0xe2 ∷ 0x04 ∷ 0x8a ∷ []
+codes = 0xA6 ∷ 0x42 ∷ 0x98 ∷ 0xE2 ∷ 0x04 ∷ 0x8A ∷ []
 
 -- what is read at a bit, or the bytes that bits fill
 pub data Row : Type 0 where
@@ -43,9 +43,9 @@ rows =
     ∷ se codes 7 (value (pos 2) 12)
     ∷ se codes 12 (value (negsuc 1) 17)
     ∷ ue (0x00 ∷ []) 0 (value 255 16)
-    ∷ ue (0x00 ∷ 0x00 ∷ 0x00 ∷ 0x00 ∷ 0xff ∷ []) 0 (refused 2)
+    ∷ ue (0x00 ∷ 0x00 ∷ 0x00 ∷ 0x00 ∷ 0xFF ∷ []) 0 (refused 2)
     ∷ u codes 4 8 (value 0x64 12)
-    ∷ u (0xff ∷ []) 4 8 (value 0xf0 12)
+    ∷ u (0xFF ∷ []) 4 8 (value 0xF0 12)
     ∷ trailing (0x00 ∷ 0x10 ∷ []) 11 (value tt 16)
     ∷ trailing (0x00 ∷ 0x00 ∷ []) 11 (refused 2)
     ∷ trailing (0x20 ∷ []) 8 (refused 1)

@@ -1,4 +1,6 @@
 // The calls of bitstream for C or Rust to link: 0 with the answer in the lent array, or a refusal's number with the array as it was.
+#![tactic(auto)]
+
 ghost use Rattle.std.specs.Prelude.{◌≡◌, List, ℕ};
 ghost use Rattle.bitstream.specs.Outcome.{left};
 ghost use Rattle.bitstream.specs.Reading.{outcome_u, outcome_s, outcome_t, u_at, u_lacking, ue_at, ue_lacking, se_at, se_lacking, trailing_at};

@@ -136,15 +136,15 @@ fn end_cases() {
 }
 
 fn zeros_inside_cases() {
-    let thirty_one = [0u8, 0, 0, 1, 0x_f_f, 0x_f_f, 0x_f_f, 0x_f_f];
+    let thirty_one = [0u8, 0, 0, 1, 0xFF, 0xFF, 0xFF, 0xFF];
     ue(&thirty_one, 0);
     ue(&thirty_one, 1);
     se(&thirty_one, 0);
-    let thirty_two = [0u8, 0, 0, 0, 0x_f_f, 0x_f_f, 0x_f_f, 0x_f_f];
+    let thirty_two = [0u8, 0, 0, 0, 0xFF, 0xFF, 0xFF, 0xFF];
     ue(&thirty_two, 0);
     ue(&thirty_two, 1);
     se(&thirty_two, 0);
-    let thirty_nine = [0x80u8, 0, 0, 0, 0, 0x_f_f];
+    let thirty_nine = [0x80u8, 0, 0, 0, 0, 0xFF];
     ue(&thirty_nine, 0);
     ue(&thirty_nine, 1);
 }
@@ -187,9 +187,9 @@ fn suffix_cases() {
 
 // The largest and the least se.
 fn signed_end_cases() {
-    let largest = [0u8, 0, 0, 1, 0x_f_f, 0x_f_f, 0x_f_f, 0xFC];
+    let largest = [0u8, 0, 0, 1, 0xFF, 0xFF, 0xFF, 0xFC];
     se(&largest, 0);
-    let least = [0u8, 0, 0, 1, 0x_f_f, 0x_f_f, 0x_f_f, 0xFE];
+    let least = [0u8, 0, 0, 1, 0xFF, 0xFF, 0xFF, 0xFE];
     se(&least, 0);
 }
 
@@ -202,23 +202,23 @@ fn stop_bit_cases() {
     trailing_of(0x80, 0);
     trailing_of(0xC0, 1);
     trailing_of(0xE0, 2);
-    trailing_of(0x_f0, 3);
+    trailing_of(0xF0, 3);
     trailing_of(0xF8, 4);
     trailing_of(0xFC, 5);
     trailing_of(0xFE, 6);
-    trailing_of(0x_f_f, 7);
+    trailing_of(0xFF, 7);
 }
 
 fn no_stop_bit_cases() {
-    let zero = [0x7Fu8, 0x_f_f];
+    let zero = [0x7Fu8, 0xFF];
     trailing(&zero, 0);
-    let padding = [0x81u8, 0x_f_f];
+    let padding = [0x81u8, 0xFF];
     trailing(&padding, 0);
     trailing(&padding, 6);
     trailing(&padding, 7);
     trailing(&padding, 15);
     trailing(&padding, 16);
-    let good = [0x80u8, 0x_f_f];
+    let good = [0x80u8, 0xFF];
     trailing(&good, 0);
 }
 

@@ -1,0 +1,10 @@
+-- `aps_ebsp_to_rbsp`: what the library answers, handed on.
+use mathlib.Core.Path.{refl}
+use Rattle.aps_c.proofs.WriteLaws.{wrote}
+use Rattle.aps_c.proofs.aps_ebsp_to_rbsp.Goals as goal
+
+pub returns : goal.returns
+returns c =
+    let a = c.args in
+    let after = c.ebsp_to_rbsp.new.out in
+    let r = wrote a.out.now a.len.now refl c.ebsp_to_rbsp.ensures.answer c.ebsp_to_rbsp.ensures.bytes (c.sized.ensures.code after) (c.sized.ensures.len after) in record { code = r.0; out = r.1.0; len = r.1.1 }

@@ -1,0 +1,16 @@
+-- `luma_of`: each field from its place.
+use Prim.Native.Nat.{◌+◌}
+use Rattle.aps_c.proofs.TakeLaws.{flag-read, word_read, luma-is}
+use Rattle.aps_c.proofs.set_of.luma_of.Goals as goal
+
+pub returns : goal.returns
+returns c =
+    luma-is
+    c.args.src.now
+    c.args.from
+    (flag-read c.args.src.now c.args.from c.to_bool-arg-1.given c.to_bool.ensures)
+    (word_read c.args.src.now (c.args.from + 1) c.to_u32-arg-1.given c.to_u32.ensures)
+    c.take_u8.ensures
+    c.take_u32.ensures
+    c.take_bool.ensures
+    c.take_u8-2.ensures
