@@ -1,4 +1,4 @@
-// The calls of aps for C or Rust to link: 0 with the answer in the lent arrays, or a refusal's number with the arrays as they were.
+// The calls of aps by numbers, which aps_c_c exports: 0 with the answer in the lent arrays, or a refusal's number with the arrays as they were.
 #![tactic(auto)]
 
 ghost use Rattle.std.specs.Prelude.{◌≡◌, List, ℕ, length};
@@ -12,7 +12,8 @@ ghost use Rattle.aps_c.specs.Codes.{code, numbers_left, place_left, header_left,
 ghost use Rattle.aps_c.specs.Numbers.{header_numbers};
 ghost use Rattle.aps.specs.declared.aps.VvcAps.{VvcAps};
 
-use crate::numbers::{NUMBERS, put_set};
+pub use crate::numbers::NUMBERS;
+use crate::numbers::put_set;
 use crate::set_of::{is_set, set_of};
 use aps::aps::{ApsOutcome, ApsReading, parse_aps_head, parse_aps_rbsp};
 use aps::nal_header::{HeaderRead, VvcNalHeader, parse_nal_header};
@@ -21,10 +22,10 @@ use aps::write::{write_aps, write_aps_nal};
 use bitstream::nal::{Size, ebsp_to_rbsp, rbsp_to_ebsp};
 use bitstream::number;
 
-mod kinds;
+pub mod kinds;
 mod numbers;
 mod set_of;
-mod table;
+pub mod table;
 
 // The set's numbers and the bit where reading ended.
 fn answered(reading: ApsReading, set: &mut [i64; NUMBERS], end: &mut [u64; 1]) -> u32
