@@ -34,7 +34,7 @@ fn answer(r: Size, out: &[u8]) {
 }
 
 // Which of the two calls.
-#[derive(Drop)]
+#[derive(Clone, Copy)]
 enum Way {
     Escape,
     Unescape,

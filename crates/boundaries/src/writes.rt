@@ -24,7 +24,7 @@ fn answer(w: Written, out: &[u8]) {
 }
 
 // A field to write.
-#[derive(Drop)]
+#[derive(Clone, Copy)]
 enum Field {
     // The value and the width.
     Bits(u32, u32),

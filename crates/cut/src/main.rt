@@ -1,4 +1,6 @@
 // Reads a stream from standard input and writes the list at a cut after it to standard output; a refusal goes to standard error.
+#![tactic(auto)]
+
 use aps_table::list::{LIST_BYTES, write_list};
 use aps_table::places::new_table;
 use aps_table::table::{StreamAnswer, take_stream};

@@ -1,4 +1,6 @@
 // Reads sets from standard input, a name and an RBSP in hexadecimal digits to a line, and writes each name with the answer: the set as numbers, or, with one number changed, its bytes.
+#![tactic(auto)]
+
 mod print;
 mod write;
 

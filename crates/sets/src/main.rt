@@ -1,4 +1,6 @@
 // Reads a stream from standard input and prints the sets in force at its end.
+#![tactic(auto)]
+
 use sets_text::print_sets;
 
 fn main() {

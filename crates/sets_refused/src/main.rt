@@ -1,4 +1,6 @@
 // The program `sets` on a stream that is refused: a byte stands between two units.
+#![tactic(auto)]
+
 use sets_text::print_sets;
 
 fn main() {

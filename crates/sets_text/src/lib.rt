@@ -1,4 +1,6 @@
 // The sets that a stream leaves in a new table, as lines on standard output.
+#![tactic(auto)]
+
 ghost use Rattle.std.specs.Prelude.{◌≡◌, ◌<◌};
 ghost use Rattle.aps_table.specs.Calls.{stream, answer_to};
 ghost use Rattle.sets_text.specs.Refused.{refused_with};
