@@ -3,7 +3,7 @@
  * Every call answers 0 or a refusal's number. A refusal changes nothing but what is said beside it; after 0, bytes of
  * an output past those written stay as they were. No bytes, numbers or lengths make a call reach past what it is given.
  * A pointer that comes with a length may be null where the length is 0. Arguments must not overlap.
- * Link with libaps_c.a, which `rt staticlib aps_c` makes in target/staticlib. */
+ * Link with libaps_c.a, which `tools/archives` makes in target/staticlib. */
 #ifndef KENDWYRA_H
 #define KENDWYRA_H
 

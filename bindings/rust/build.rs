@@ -16,7 +16,7 @@ fn main() {
     println!("cargo:rerun-if-changed={}", library.display());
     if !library.is_file() {
         eprintln!("kendwyra: there is no {}.", library.display());
-        eprintln!("Run `rt staticlib aps_c` at the repository's top, or set KENDWYRA_LIB to the folder of libaps_c.a.");
+        eprintln!("Run `tools/archives` at the repository's top, or set KENDWYRA_LIB to the folder of libaps_c.a.");
         exit(1);
     }
     println!("cargo:rustc-link-search=native={}", folder().display());

@@ -26,7 +26,7 @@ use Rattle.aps.specs.AlfSyntax as Alf
 use Rattle.aps.specs.declared.alf.AlfRead.{AlfRead}
 use Rattle.aps.specs.declared.alf.Signals.{Signals}
 use Rattle.aps.specs.declared.fields.Stop.{Stop}
-use Rattle.aps.specs.Inner.{outcome_stop, luma_of, chroma_of, cc_of, alf_of, no_alf, after, alf_after}
+use Rattle.aps.specs.Inner.{outcome_stop, luma_of, chroma_of, cc_of, alf_of, no_filters, after, alf_after}
 use Rattle.aps.proofs.Lawful.{Lawful, total}
 use Rattle.aps.proofs.FieldLaws.{u-law}
 use Rattle.aps.proofs.CodecLaws.{never_true, inside, ▷-halves, ▷-law, judged-law, when-law}
@@ -199,7 +199,7 @@ module _ (s : List ℕ) (p : ℕ) where
   cc-absent abs sign e f = rw (e, f) (sym (via-absent to_cc from_cc (λ d. true) no_cc cc_syntax s p))
 
   -- none of the four parts
-  pub alf-absent : (r : AlfRead) → r ≡ no_alf (Stop.End p) → (luma chroma cb cr : Bool) → (luma || (chroma || (cb || cr))) ≡ false
+  pub alf-absent : (r : AlfRead) → r ≡ no_filters (Stop.End p) → (luma chroma cb cr : Bool) → (luma || (chroma || (cb || cr))) ≡ false
       → {luma-idx luma-abs luma-clip chroma-abs chroma-clip cb-abs cr-abs : List ℕ} {luma-sign chroma-sign cb-sign cr-sign : List Bool}
       → (luma-idx ≡ replicate 25 0) × (luma-abs ≡ replicate 300 0) × (luma-sign ≡ replicate 300 false) × (luma-clip ≡ replicate 300 0)
       × (chroma-abs ≡ replicate 48 0) × (chroma-sign ≡ replicate 48 false) × (chroma-clip ≡ replicate 48 0)

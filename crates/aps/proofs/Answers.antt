@@ -45,7 +45,7 @@ refused-parts why (e, h, d, l, c) f a g = rw (g, e, h, d, l, c) (sym f, ap set_g
 -- the same by kind, where arrays of zeros make the records
 module _ (s : List ℕ) (why : Refusal) (f : read_rbsp s ≡ refused (number why)) where
   pub refused-alf : (r : AlfAnswer) {luma-idx luma-abs luma-clip chroma-abs chroma-clip cb-abs cr-abs : List ℕ} {luma-sign chroma-sign cb-sign cr-sign : List Bool}
-      → ((r.outcome ≡ Aps.Refused why) × (r.head ≡ head_of empty_set) × (r.read ≡ no_alf (Stop.Refused why)))
+      → ((r.outcome ≡ Aps.Refused why) × (r.head ≡ head_of empty_set) × (r.read ≡ no_alf why))
       × ((luma-idx ≡ replicate 25 0) × (luma-abs ≡ replicate 300 0) × (luma-sign ≡ replicate 300 false) × (luma-clip ≡ replicate 300 0)
       × (chroma-abs ≡ replicate 48 0) × (chroma-sign ≡ replicate 48 false) × (chroma-clip ≡ replicate 48 0)
       × (cb-abs ≡ replicate 28 0) × (cb-sign ≡ replicate 28 false) × (cr-abs ≡ replicate 28 0) × (cr-sign ≡ replicate 28 false))

@@ -140,12 +140,12 @@ wrote-alike a set k {o = o} is plain e =
 module _ (set : VvcAps) where
   -- a set with extension flag 1 is refused
   pub due-extended : set.aps_extension_flag ≡ true → refused 3 ≡ bytes_due set
-  unfolding bytes_due
+  unfolding bytes_due rbsp_due
   due-extended x = sym (ap (λ (b : Bool). cond b (refused 3) (rbsp_due set)) x)
 
   -- of a set with extension flag 0 the RBSP is due
   pub due-plain : set.aps_extension_flag ≡ false → bytes_due set ≡ rbsp_due set
-  unfolding bytes_due
+  unfolding bytes_due rbsp_due
   due-plain x = ap (λ (b : Bool). cond b (refused 3) (rbsp_due set)) x
 
   -- a set that the description does not take is refused

@@ -168,9 +168,26 @@ abbrev pub alf_after : Signals → List ℕ → Outcome VvcAlfData
 alf_after r s =
     after r.stop (λ q. map_outcome (λ x. to_alf (r.luma, (r.chroma, (r.cb, (r.cr, x))))) ((alf_filters r.luma r.chroma r.cb r.cr).read s q))
 
--- no filters
-abbrev pub no_alf : Stop → AlfRead
-no_alf stop =
+-- no filters, for this reason
+abbrev pub no_alf : Refusal → AlfRead
+no_alf why =
+    record {
+      stop = Stop.Refused why;
+      luma = false;
+      chroma = false;
+      cb = false;
+      cr = false;
+      luma_clip = false;
+      luma_count_minus1 = 0;
+      chroma_clip = false;
+      chroma_count_minus1 = 0;
+      cb_count_minus1 = 0;
+      cr_count_minus1 = 0;
+    }
+
+-- no filters, where the reading stopped
+abbrev pub no_filters : Stop → AlfRead
+no_filters stop =
     record {
       stop = stop;
       luma = false;

@@ -17,7 +17,7 @@ rbsp_due a = cond (aps.ok a) (value (rbsp_bytes a) (length (rbsp_bytes a))) (ref
 
 -- which are due at the start of the output. 3: extension flag 1
 unfoldable pub bytes_due : VvcAps → Outcome (List ℕ)
-bytes_due a = cond a.aps_extension_flag (refused 3) (rbsp_due a)
+bytes_due a = cond a.aps_extension_flag (refused 3) (cond (aps.ok a) (value (rbsp_bytes a) (length (rbsp_bytes a))) (refused 2))
 
 -- `write_aps`: 5, the output is shorter than the bytes due, comes last
 unfoldable pub write_aps : VvcAps → List ℕ → Outcome (List ℕ)

@@ -6,7 +6,7 @@ ghost use Rattle.aps.specs.AlfSyntax.{luma, to_luma, no_luma};
 ghost use Rattle.aps.specs.AlfSyntax.{chroma, to_chroma, no_chroma, cc, to_cc, no_cc};
 ghost use Rattle.aps.specs.AlfSyntax.{alf, alf_filters, to_alf};
 ghost use Rattle.aps.specs.ApsSyntax.{zero_alf};
-ghost use Rattle.aps.specs.Inner.{outcome_stop, after, StopsBy, luma_of, chroma_of, cc_of, alf_of, no_alf, alf_after};
+ghost use Rattle.aps.specs.Inner.{outcome_stop, after, StopsBy, luma_of, chroma_of, cc_of, alf_of, no_alf, no_filters, alf_after};
 
 use crate::alf_chroma::{read_cc, read_chroma};
 use crate::alf_luma::read_luma;
@@ -228,9 +228,16 @@ fn read_cc_if(
     }
 }
 
-// No filters.
-pub(crate) fn no_alf(stop: Stop) -> AlfRead
-    ensures { result ≡ no_alf stop }
+// No filters, for this reason.
+pub(crate) fn no_alf(why: Refusal) -> AlfRead
+    ensures { result ≡ no_alf why }
+{
+    no_filters(Stop::Refused(why))
+}
+
+// No filters, where the reading stopped.
+fn no_filters(stop: Stop) -> AlfRead
+    ensures { result ≡ no_filters stop }
 {
     AlfRead {
         stop,
@@ -296,7 +303,7 @@ fn read_alf_filters(
         ≡ map_outcome (λ x. to_alf (luma, (chroma, (cb, (cr, x))))) ((alf_filters luma chroma cb cr).read bytes.now p) }
 {
     if !is_any(luma, chroma, cb, cr) {
-        return no_alf(Stop::End(p));
+        return no_filters(Stop::End(p));
     }
     let codes = short_codes();
     let l = read_luma_if(
@@ -440,6 +447,6 @@ pub(crate) fn parse_alf_data(
             cr_abs,
             cr_sign,
         ),
-        Stop::Refused(why) => no_alf(Stop::Refused(why)),
+        Stop::Refused(why) => no_alf(why),
     }
 }

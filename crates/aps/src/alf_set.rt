@@ -41,7 +41,7 @@ fn refuse_alf(
     cr_abs: &mut [u8; 28],
     cr_sign: &mut [bool; 28],
 ) -> AlfAnswer
-    ensures answer { (result.outcome ≡ ApsOutcome.Refused why) × (result.head ≡ head_of empty_set) × (result.read ≡ no_alf (Stop.Refused why)) }
+    ensures answer { (result.outcome ≡ ApsOutcome.Refused why) × (result.head ≡ head_of empty_set) × (result.read ≡ no_alf why) }
     ensures arrays { (luma_idx.new ≡ replicate 25 0) × (luma_abs.new ≡ replicate 300 0)
         × (luma_sign.new ≡ replicate 300 false) × (luma_clip.new ≡ replicate 300 0)
         × (chroma_abs.new ≡ replicate 48 0) × (chroma_sign.new ≡ replicate 48 false)
@@ -63,7 +63,7 @@ fn refuse_alf(
     AlfAnswer {
         outcome: ApsOutcome::Refused(why),
         head: empty_head(),
-        read: no_alf(Stop::Refused(why)),
+        read: no_alf(why),
     }
 }
 

@@ -91,7 +91,7 @@ held-some t k i a = go (read_rbsp (place_bytes t k i)) refl
 module _ (a : VvcAps) where
   -- with extension flag 1 its entry is refused
   pub due-extended : extended a ≡ true → entry_due a ≡ refused 3
-  unfolding extended entry_due bytes_due
+  unfolding extended entry_due bytes_due rbsp_due
   due-extended x =
       ap (λ (f : Bool). cond f (refused 3) (rbsp_due a) then λ bytes n. value (coded bytes) (length (coded bytes))) x
 

@@ -57,7 +57,7 @@ returns-then-not-is_any c =
     let a = c.args in
     let k = c.is_any in
     let (l, h, i1, a1, s1, c1, a2, s2, c2, a3, s3, a4, s4) = c.requires in
-    alf-absent a.bytes.now a.p c.no_alf.result c.no_alf.ensures a.luma a.chroma a.cb a.cr (sym k.ensures ∙ c.if-not-is_any.true)
+    alf-absent a.bytes.now a.p c.no_filters.result c.no_filters.ensures a.luma a.chroma a.cb a.cr (sym k.ensures ∙ c.if-not-is_any.true)
     (i1, a1, s1, c1, a2, s2, c2, a3, s3, a4, s4)
 
 pub read_chroma_if-c-requires : goal.read_chroma_if-c-requires

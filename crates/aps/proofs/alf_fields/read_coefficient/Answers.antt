@@ -1,5 +1,4 @@
 -- `read_coefficient`: a sign is read after a magnitude that is taken.
--- the magnitude that was read, and how far it reached
 use mathlib.Core.Path.{◌≡◌, sym, ap, ◌∙◌}
 use Prim.Native.Nat.{◌*◌, ◌≤◌}
 use native.Mathlib.Omega.{arith}

@@ -1,5 +1,4 @@
 -- `alf_answer`: the payload, the id, then how the set ends.
--- what the payload gave
 use mathlib.Core.Path.{◌≡◌}
 use mathlib.Core.List.{List}
 use Prim.Native.Nat.{ℕ}
@@ -18,6 +17,7 @@ use Rattle.aps.proofs.RbspSteps.{set_of, alf-refused, alf-id, alf-set, set_ended
 use Rattle.aps.proofs.alf_set.alf_answer.Goals as goal
 use Rattle.aps.proofs.alf_set.alf_answer.Goals.{After-parse_alf_data-read}
 
+-- what the payload gave
 abbrev bytes : (c : After-parse_alf_data-read) → List ℕ
 bytes c =
     c.args.bytes.now

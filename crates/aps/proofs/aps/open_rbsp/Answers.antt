@@ -1,5 +1,4 @@
 -- `open_rbsp`: kind, id and chroma flag.
--- what stands before the payload
 use Prim.Native.Nat.{ℕ, ◌≤◌, ◌<◌}
 use mathlib.Core.Path.{◌≡◌, refl, sym, ◌∙◌}
 use mathlib.Core.List.{List}
@@ -15,15 +14,8 @@ use Rattle.aps.proofs.aps.open_rbsp.Goals.{After-read_flag-chroma}
 three_up : (k : ℕ) → (k ≡ 0 → ⊥) → (k ≡ 1 → ⊥) → (k ≡ 2 → ⊥) → 2 < k
 three_up k a b c = omega arith
 
-abbrev bytes : (c : After-read_flag-chroma) → List ℕ
-bytes c =
-    c.args.bytes.now
-
-abbrev short : (c : After-read_flag-chroma) → length (bytes c) ≤ 65536
-short c =
-    c.if-bytes-gt-LONGEST_INPUT.false
-
-headed : (c : After-read_flag-chroma) {kind : ℕ} → c.read_u-kind.result ≡ kind → Headed (bytes c) kind c.read_u-id.result c.read_flag-chroma.result
+-- what stands before the payload
+headed : (c : After-read_flag-chroma) {kind : ℕ} → c.read_u-kind.result ≡ kind → Headed c.args.bytes.now kind c.read_u-id.result c.read_flag-chroma.result
 headed c e =
     record {
       there = sym c.lacks_bits.ensures ∙ c.if-lacks_bits.false;
@@ -33,12 +25,12 @@ headed c e =
     }
 
 pub returns-then-bytes-gt-LONGEST_INPUT : goal.returns-then-bytes-gt-LONGEST_INPUT
-returns-then-bytes-gt-LONGEST_INPUT c = too_long c.args.bytes.now c.if-bytes-gt-LONGEST_INPUT.true
+returns-then-bytes-gt-LONGEST_INPUT c = too_long c.args.bytes.now (omega arith)
 
 pub returns-then-lacks_bits : goal.returns-then-lacks_bits
 returns-then-lacks_bits c =
     let s = c.args.bytes.now in
-    in-limits s c.if-bytes-gt-LONGEST_INPUT.false ∙ head-lacking s (sym c.lacks_bits.ensures ∙ c.if-lacks_bits.true)
+    in-limits s (omega arith) ∙ head-lacking s (sym c.lacks_bits.ensures ∙ c.if-lacks_bits.true)
 
 pub overflow_cast-kind : goal.overflow_cast-kind
 overflow_cast-kind c = omega (arith, c.read_u-kind.ensures, field_lt c.args.bytes.now 0 3)
@@ -48,17 +40,17 @@ overflow_cast-id c = omega (arith, c.read_u-id.ensures, field_lt c.args.bytes.no
 
 pub returns-then-kind-eq-NUMBER : goal.returns-then-kind-eq-NUMBER
 returns-then-kind-eq-NUMBER c =
-    ((short (goal.at.returns-then-kind-eq-NUMBER c).After-read_flag-chroma), (headed (goal.at.returns-then-kind-eq-NUMBER c).After-read_flag-chroma) c.if-kind-eq-NUMBER.true)
+    (omega arith, (headed (goal.at.returns-then-kind-eq-NUMBER c).After-read_flag-chroma) c.if-kind-eq-NUMBER.true)
 
 pub returns-then-kind-eq-NUMBER-2 : goal.returns-then-kind-eq-NUMBER-2
 returns-then-kind-eq-NUMBER-2 c =
-    ((short (goal.at.returns-then-kind-eq-NUMBER-2 c).After-read_flag-chroma), (headed (goal.at.returns-then-kind-eq-NUMBER-2 c).After-read_flag-chroma) c.if-kind-eq-NUMBER-2.true)
+    (omega arith, (headed (goal.at.returns-then-kind-eq-NUMBER-2 c).After-read_flag-chroma) c.if-kind-eq-NUMBER-2.true)
 
 pub returns-then-kind-eq-NUMBER-3 : goal.returns-then-kind-eq-NUMBER-3
 returns-then-kind-eq-NUMBER-3 c =
-    ((short (goal.at.returns-then-kind-eq-NUMBER-3 c).After-read_flag-chroma), (headed (goal.at.returns-then-kind-eq-NUMBER-3 c).After-read_flag-chroma) c.if-kind-eq-NUMBER-3.true)
+    (omega arith, (headed (goal.at.returns-then-kind-eq-NUMBER-3 c).After-read_flag-chroma) c.if-kind-eq-NUMBER-3.true)
 
 pub returns : goal.returns
 returns c =
-    in-limits (bytes (goal.at.returns c).After-read_flag-chroma) (short (goal.at.returns c).After-read_flag-chroma) ∙ other-kind (bytes (goal.at.returns c).After-read_flag-chroma) _ _ c.read_u-kind.result ((headed (goal.at.returns c).After-read_flag-chroma) refl)
+    in-limits c.args.bytes.now (omega arith) ∙ other-kind c.args.bytes.now _ _ c.read_u-kind.result ((headed (goal.at.returns c).After-read_flag-chroma) refl)
     (three_up c.read_u-kind.result c.if-kind-eq-NUMBER.false c.if-kind-eq-NUMBER-2.false c.if-kind-eq-NUMBER-3.false)

@@ -1,5 +1,4 @@
 -- `read_rest`: the codewords, then the chroma delta, whose 3 bits fit a byte.
--- what the codewords gave
 use mathlib.Core.Path.{◌≡◌, sym}
 use mathlib.Core.Bool.{Bool}
 use mathlib.Core.List.{List}
@@ -14,6 +13,7 @@ use Rattle.aps.proofs.LmcsSteps.{codewords-law, crs-lt, rest-refused, crs-refuse
 use Rattle.aps.proofs.lmcs.read_rest.Goals as goal
 use Rattle.aps.proofs.lmcs.read_rest.Goals.{After-read_codewords-stop, In-Value}
 
+-- what the codewords gave
 abbrev arrays : (c : After-read_codewords-stop) → List ℕ × List Bool
 arrays c =
     (c.read_codewords-stop.new.abs, c.read_codewords-stop.new.sign)

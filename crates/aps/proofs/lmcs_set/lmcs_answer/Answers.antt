@@ -1,5 +1,4 @@
 -- `lmcs_answer`: the id, the payload, then how the set ends.
--- what the payload gave
 use mathlib.Core.Path.{◌≡◌}
 use mathlib.Core.List.{List}
 use Prim.Native.Nat.{ℕ, ◌≤◌}
@@ -18,6 +17,7 @@ use Rattle.aps.proofs.RbspSteps.{set_of, lmcs-refused, lmcs-id, lmcs-set, set_en
 use Rattle.aps.proofs.lmcs_set.lmcs_answer.Goals as goal
 use Rattle.aps.proofs.lmcs_set.lmcs_answer.Goals.{After-parse_lmcs_data-read}
 
+-- what the payload gave
 abbrev bytes : (c : After-parse_lmcs_data-read) → List ℕ
 bytes c =
     c.args.bytes.now

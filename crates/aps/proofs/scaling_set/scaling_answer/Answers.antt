@@ -1,5 +1,4 @@
 -- `scaling_answer`: the payload, the id, then how the set ends.
--- what the payload gave
 use mathlib.Core.Path.{◌≡◌}
 use mathlib.Core.List.{List}
 use Prim.Native.Nat.{ℕ}
@@ -19,6 +18,7 @@ use Rattle.aps.proofs.RbspSteps.{set_of, scaling-refused, scaling-id, scaling-se
 use Rattle.aps.proofs.scaling_set.scaling_answer.Goals as goal
 use Rattle.aps.proofs.scaling_set.scaling_answer.Goals.{After-parse_scaling_list_data-stop}
 
+-- what the payload gave
 abbrev bytes : (c : After-parse_scaling_list_data-stop) → List ℕ
 bytes c =
     c.args.bytes.now

@@ -1,5 +1,4 @@
 -- `parse_aps`: the set of the RBSP in the work buffer.
--- the RBSP in the work buffer
 use mathlib.Core.Path.{sym, subst}
 use lib.ListN.{length}
 use lib.Seq.{length-take-le}
@@ -10,6 +9,7 @@ use Rattle.aps.proofs.Answers.{same_answer, refused-answer}
 use Rattle.aps.proofs.unit.parse_aps.Goals as goal
 use Rattle.aps.proofs.unit.parse_aps.Goals.{In-Bytes}
 
+-- the RBSP in the work buffer
 rbsp : (c : In-Bytes) → Unwrapped (Size.Bytes c.in-Bytes.n) (parse_aps c.args.unit.now (length c.args.work.now)) c.rbsp_to_work.new.work
 rbsp c =
     let k = c.rbsp_to_work in

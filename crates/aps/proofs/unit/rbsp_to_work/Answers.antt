@@ -1,5 +1,4 @@
 -- `rbsp_to_work`: admitted by its header and the room, then the escapes left out.
--- the header and the room allow it
 use mathlib.Core.Path.{◌≡◌, sym}
 use Prim.Native.Nat.{◌≤◌}
 use lib.ListN.{length}
@@ -11,6 +10,7 @@ use Rattle.aps.proofs.UnitSteps.{admitted-lengths, unit-refused, unwrapped}
 use Rattle.aps.proofs.unit.rbsp_to_work.Goals as goal
 use Rattle.aps.proofs.unit.rbsp_to_work.Goals.{In-Aps}
 
+-- the header and the room allow it
 two : (c : In-Aps) → 2 ≤ length c.args.unit.now
 two c =
     let passes : admitted c.args.unit.now (length c.args.work.now) ≡ value tt 16 = answered outcome_admission c.in-Aps.is c.admit.ensures in

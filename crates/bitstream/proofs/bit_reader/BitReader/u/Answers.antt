@@ -35,4 +35,4 @@ unfolding u_lacking read_u
 returns-else-p-n-le8 c =
     let a = c.args in
     let r = lacking-value _ (ap (λ v. value v (a.self.bit_pos + a.n)) c.wide.ensures, c.lacks_bits-lacking.ensures)
-    (u-in a.bytes.now a.self.bit_pos c.if-bytes-gt-LONGEST_INPUT.false c.if-p-gt-LAST_START.false a.n c.if-n-gt32.false) in record { field = r.0; lacking = r.1 }
+    (u-in a.bytes.now a.self.bit_pos c.if-bytes-gt-LONGEST_INPUT.false c.if-p-gt-LAST_START.false c.args.n c.if-n-gt32.false) in record { field = r.0; lacking = r.1 }
