@@ -10,7 +10,6 @@ use Rattle.bitstream.specs.declared.Refusal.{Refusal}
 use Rattle.aps.specs.declared.alf.VvcAlfData.{VvcAlfData}
 use Rattle.aps.specs.declared.lmcs.VvcLmcsData.{VvcLmcsData}
 use Rattle.aps.specs.declared.scaling_list.VvcScalingListData.{VvcScalingListData}
-use Rattle.aps.specs.declared.fields.Stop.TheVariants as Stop
 use Rattle.aps.specs.declared.aps.ApsHead.{ApsHead}
 use Rattle.aps.specs.declared.aps.HeadReading.{HeadReading}
 use Rattle.aps.specs.declared.alf_set.AlfAnswer.{AlfAnswer}

@@ -1,8 +1,6 @@
 -- `open_rbsp`: kind, id and chroma flag.
-use Prim.Native.Nat.{ℕ, ◌≤◌, ◌<◌}
+use Prim.Native.Nat.{ℕ, ◌<◌}
 use mathlib.Core.Path.{◌≡◌, refl, sym, ◌∙◌}
-use mathlib.Core.List.{List}
-use lib.ListN.{length}
 use native.Mathlib.Omega.{arith}
 use Rattle.bitstream.proofs.FieldLaws.{field_lt}
 use Rattle.aps.specs.Inner.{Headed}

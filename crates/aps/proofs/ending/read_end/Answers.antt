@@ -21,4 +21,4 @@ pub returns-in-Refused : goal.returns-in-Refused
 unfolding closed
 returns-in-Refused c =
     let t = sym (trailing-in c.args.bytes.now c.args.p c.requires.0 (omega arith)) ∙ answered outcome_t c.in-Refused.is c.read_rbsp_trailing_bits.ensures in
-    λ a e. rw (e, c.if-extension.false, t)
+    λ set e. rw (e, c.if-extension.false, t)
