@@ -1,7 +1,7 @@
 // A set out of the numbers that stand for it.
 ghost use Rattle.std.specs.Prelude.{◌≡◌, ◌+◌, ◌≤◌, length};
 ghost use Rattle.aps_c.specs.SetOf.{natural, integer, truth, bytes_at, words_at, integers_at, flags_at};
-ghost use Rattle.aps_c.specs.SetOf.{kind_of as kind-of, luma_of, chroma_of, cc_of, alf_of, lmcs_of, scaling_of, set_of};
+ghost use Rattle.aps_c.specs.SetOf.{kind_of, luma_of, chroma_of, cc_of, alf_of, lmcs_of, scaling_of, set_of};
 ghost use Rattle.aps_c.specs.SetOf.{all_in, fits_luma, fits_chroma, fits_cc, fits_alf, fits_lmcs, fits_scaling, fits_head, fits, is_set};
 
 use crate::numbers::NUMBERS;
@@ -55,7 +55,7 @@ fn to_bool(x: i64) -> bool
 
 // The kind of a number; any other than 1 and 2 reads as 0.
 fn to_kind(n: u8) -> ApsKind
-    ensures { result ≡ kind-of n }
+    ensures { result ≡ kind_of n }
 {
     if n == Lmcs::NUMBER {
         return ApsKind::Lmcs;
