@@ -3,7 +3,7 @@ ghost use Rattle.std.specs.Prelude.{◌≡◌, ◌+◌, ◌*◌, ◌≤◌, ◌<
 ghost use Rattle.bitstream.specs.Bits.{field_at};
 ghost use Rattle.bitstream.specs.Windows.{window_at, code_in, found};
 
-use crate::bit_reader::{byte, byte_or_zero};
+use crate::place::{byte, byte_or_zero};
 
 // The four bytes from byte i on, as one number.
 fn four(bytes: &[u8], i: usize) -> u64
@@ -69,23 +69,23 @@ pub fn window_alone(bytes: &[u8], p: usize) -> u64
     last_eight(bytes, i) << (p % 8) as u64
 }
 
-// A ue at the start of a word: its value and its bits, or no bits.
-#[derive(Clone, Copy)]
+// A ue at the start of a word: its value and its bits.
+#[derive(Clone, Copy, Debug, PartialEq, Eq)]
 pub struct Code {
     pub value: u32,
     pub bits: u64,
 }
 
 // One of at most 8 zeros, by its leading zeros.
-pub fn code_in(w: u64) -> Code
+pub fn code_in(w: u64) -> Option<Code>
     ensures { found result ≡ code_in w }
 {
-    let z = u64::leading_zeros(w) as u64;
+    let z = w.leading_zeros() as u64;
     if 8 < z {
-        return Code { value: 0, bits: 0 };
+        return None;
     }
-    Code {
+    Some(Code {
         value: (w >> (63 - 2 * z)) as u32 - 1,
         bits: 2 * z + 1,
-    }
+    })
 }

@@ -2,7 +2,7 @@
 use mathlib.Core.Path.{sym}
 use native.Mathlib.Omega.{arith}
 use Rattle.bitstream.proofs.FieldLaws.{field-byte, field-grow}
-use Rattle.bitstream.proofs.bit_reader.three.Goals as goal
+use Rattle.bitstream.proofs.place.three.Goals as goal
 
 pub returns : goal.returns
 returns c =

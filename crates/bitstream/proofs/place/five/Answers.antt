@@ -2,7 +2,7 @@
 use mathlib.Core.Path.{sym}
 use native.Mathlib.Omega.{arith}
 use Rattle.bitstream.proofs.FieldLaws.{field-grow}
-use Rattle.bitstream.proofs.bit_reader.five.Goals as goal
+use Rattle.bitstream.proofs.place.five.Goals as goal
 
 pub returns : goal.returns
 returns c =

@@ -3,7 +3,7 @@ use native.Mathlib.Nat.{mod-lt, lt_of_lt_of_le}
 use native.Mathlib.Omega.{arith}
 use lib.Pow.{pow_pos, pow_mono}
 use Rattle.bitstream.proofs.ByteLaws.{one_shl}
-use Rattle.bitstream.proofs.bit_reader.cut.Goals as goal
+use Rattle.bitstream.proofs.place.cut.Goals as goal
 
 pub nonzero_rem-result : goal.nonzero_rem-result
 nonzero_rem-result c = rw (one_shl 64 c.args.n (omega arith)) (pow_pos c.args.n)

@@ -6,7 +6,7 @@ use native.Mathlib.Omega.{arith}
 use lib.Pow.{mod-mod-pow, shr_le}
 use Rattle.bitstream.specs.Bits.{field_at}
 use Rattle.bitstream.proofs.FieldLaws.{field-byte, window-up, word-top}
-use Rattle.bitstream.proofs.bit_reader.narrow.Goals as goal
+use Rattle.bitstream.proofs.place.narrow.Goals as goal
 
 pub overflow_cast-result-2 : goal.overflow_cast-result-2
 overflow_cast-result-2 c = omega (arith, shr_le (c.byte_or_zero.result * 2 ^ (c.args.p % 8) % 2 ^ 64 % 256) (8 - c.args.n))

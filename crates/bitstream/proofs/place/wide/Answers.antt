@@ -2,7 +2,7 @@
 use mathlib.Core.Path.{◌∙◌}
 use native.Mathlib.Omega.{arith}
 use Rattle.bitstream.proofs.FieldLaws.{window-field}
-use Rattle.bitstream.proofs.bit_reader.wide.Goals as goal
+use Rattle.bitstream.proofs.place.wide.Goals as goal
 
 pub returns-then-n-le17 : goal.returns-then-n-le17
 returns-then-n-le17 c =
