@@ -32,12 +32,12 @@ window-here s p w e =
     let q : 64 - 64 + p % 8 ≡ p % 8 = omega arith in
     rw q at (window-up s p 64 w e 64 (omega arith) (omega arith))
 
--- the last eight bytes, moved up to bit p, which one of the last seven of them holds
-pub window-last : (s : List ℕ) (p n w : ℕ) → length s ≡ n → 8 ≤ n → n < p / 8 + 8 → p / 8 < n → w ≡ field_at s ((n - 8) * 8) 64
-    → (w * 2 ^ (p - (n - 8) * 8)) % 2 ^ 64 ≡ window_at s p
+-- eight bytes from byte i on, after which there are no more, moved up to bit p, which one of them holds
+pub window-last : (s : List ℕ) (p i w : ℕ) → length s ≤ i + 8 → i ≤ p / 8 → p / 8 < i + 8 → w ≡ field_at s (i * 8) 64
+    → (w * 2 ^ (p - i * 8)) % 2 ^ 64 ≡ window_at s p
 unfolding window_at
-window-last s p n w l h j i e =
-    let a = (n - 8) * 8 in
+window-last s p i w l h j e =
+    let a = i * 8 in
     let k = p - a in
     let r = p % 8 in
     let x = field_at s p (64 - k) in

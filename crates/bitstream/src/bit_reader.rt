@@ -1,12 +1,13 @@
 // Fields read, highest bit first; bits past the end are 0. After src/bit_reader.rs.
-ghost use Rattle.std.specs.Prelude.{◌≡◌, ◌≤◌, ◌<◌};
+ghost use Rattle.std.specs.Prelude.{◌≡◌, ◌*◌, ◌<◌, length};
+ghost use Rattle.bitstream.specs.Bits.{bit_at};
 ghost use Rattle.bitstream.specs.Fields.{se_value};
 ghost use Rattle.bitstream.specs.Reading.{outcome_field, is_lacking, outcome_aligned};
 ghost use Rattle.bitstream.specs.Windows.{window_at, code_in, found};
 ghost use Rattle.bitstream.specs.Reading.{u_at, u_lacking, ue_at, ue_lacking, se_at, se_lacking, trailing_at};
 
 use crate::Refusal;
-use crate::place::{Place, narrow, wide};
+use crate::place::{Place, bits};
 use crate::short_codes::CodeTable;
 use crate::window::{Code, code_in, window_alone};
 
@@ -22,6 +23,14 @@ pub struct Field<T> {
     pub value: T,
     pub next: BitReader,
     pub lacking: bool,
+}
+
+// Bit p.
+fn bit(bytes: &[u8], p: usize) -> u8
+    requires { p < length bytes.now * 8 }
+    ensures { result ≡ bit_at bytes.now p }
+{
+    (bytes[p / 8] >> (7 - p % 8) as u8) % 2
 }
 
 // The se that a ue stands for.
@@ -47,7 +56,7 @@ fn long_ue(place: Place) -> Result<Field<u32>, Refusal>
     }
     let s = place.suffix(z);
     Ok(Field {
-        value: (1 << z) - 1 + wide(place.bytes, s, z),
+        value: (1 << z) - 1 + bits(place.bytes, s, z),
         next: BitReader {
             bit_pos: s + z as usize,
         },
@@ -108,7 +117,7 @@ impl BitReader {
             if end <= q {
                 break zeros;
             }
-            let b = narrow(bytes, q, 1);
+            let b = bit(bytes, q);
             q += 1;
             if b == 1 {
                 break zeros;
@@ -120,7 +129,7 @@ impl BitReader {
             }
         };
         // read_bits( leadingZeroBits )
-        let suffix = wide(bytes, q, leading_zero_bits);
+        let suffix = bits(bytes, q, leading_zero_bits);
         let after = q + leading_zero_bits as usize;
         // codeNum = 2^leadingZeroBits - 1 + read_bits( leadingZeroBits )
         let code_num = (1 << leading_zero_bits) - 1 + suffix;

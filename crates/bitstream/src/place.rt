@@ -1,10 +1,11 @@
 // A place at which a field may start, and the bits from there on.
-ghost use Rattle.std.specs.Prelude.{◌≡◌, ◌+◌, ◌*◌, ◌/◌, ◌%◌, ◌^◌, ◌≤◌, ◌<◌, length, get_or, IfOk, OnOk, IfErr};
+ghost use Rattle.std.specs.Prelude.{◌≡◌, ◌+◌, ◌≤◌, length, IfOk, OnOk, IfErr};
 ghost use Rattle.bitstream.specs.Outcome.{refused, number};
 ghost use Rattle.bitstream.specs.Bits.{field_at};
 ghost use Rattle.bitstream.specs.Fields.{lacks, zeros_at, suffix_at};
 ghost use Rattle.bitstream.specs.Reading.{started};
 
+use crate::window::window;
 use crate::{LAST_START, LONGEST_INPUT, Refusal};
 
 // Bit `bit` of an input; neither is over its limit.
@@ -16,64 +17,12 @@ pub(crate) struct Place<'a> {
     ghost start: { bit ≤ 1048576 },
 }
 
-// Byte i.
-pub(crate) fn byte(bytes: &[u8], i: usize) -> u64
-    requires { i < length bytes.now }
-    ensures { (result ≡ get_or bytes.now i 0) × (result < 256) }
-{
-    bytes[i] as u64
-}
-
-// Byte i, or 0 past the end.
-pub(crate) fn byte_or_zero(bytes: &[u8], i: usize) -> u64
-    ensures { (result ≡ get_or bytes.now i 0) × (result < 256) }
-{
-    if i < bytes.len() { byte(bytes, i) } else { 0 }
-}
-
-// The three bytes from byte i on, as one number.
-fn three(bytes: &[u8], i: usize) -> u64
-    requires { i ≤ 2097152 }
-    ensures { (result ≡ field_at bytes.now (i * 8) 24) × (result < 16777216) }
-{
-    (byte_or_zero(bytes, i) * 256 + byte_or_zero(bytes, i + 1)) * 256 + byte_or_zero(bytes, i + 2)
-}
-
-// The five bytes from byte i on, as one number.
-fn five(bytes: &[u8], i: usize) -> u64
-    requires { i ≤ 2097152 }
-    ensures { (result ≡ field_at bytes.now (i * 8) 40) × (result < 1099511627776) }
-{
-    (three(bytes, i) * 256 + byte_or_zero(bytes, i + 3)) * 256 + byte_or_zero(bytes, i + 4)
-}
-
-// The n bits of w before its last `unread`.
-fn cut(w: u64, unread: u64, n: u32) -> u32
-    requires { (n ≤ 32) × (unread < 64) }
-    ensures { result ≡ w / 2 ^ unread % 2 ^ n }
-{
-    ((w >> unread) % (1 << n as u64)) as u32
-}
-
-// The n bits from bit p on, where one byte holds them.
-pub(crate) fn narrow(bytes: &[u8], p: usize, n: u32) -> u32
-    requires { p % 8 + n ≤ 8 }
+// The n bits from bit p on.
+pub(crate) fn bits(bytes: &[u8], p: usize, n: u32) -> u32
+    requires { n ≤ 32 }
     ensures { result ≡ field_at bytes.now p n }
 {
-    let up = (byte_or_zero(bytes, p / 8) << (p % 8) as u64) % 256;
-    (up >> (8 - n as u64)) as u32
-}
-
-// The n bits from bit p on: three bytes hold any field of 17 bits, five one of 32.
-pub(crate) fn wide(bytes: &[u8], p: usize, n: u32) -> u32
-    requires { (n ≤ 32) × (p ≤ 2097152) }
-    ensures { result ≡ field_at bytes.now p n }
-{
-    if n <= 17 {
-        cut(three(bytes, p / 8), 24 - (p % 8) as u64 - n as u64, n)
-    } else {
-        cut(five(bytes, p / 8), 40 - (p % 8) as u64 - n as u64, n)
-    }
+    (window(bytes, p) >> 32 >> (32 - n as u64)) as u32
 }
 
 impl<'a> Place<'a> {
@@ -104,11 +53,7 @@ impl<'a> Place<'a> {
         requires { n ≤ 32 }
         ensures { result ≡ field_at self.entry.bytes.now self.entry.bit n }
     {
-        if self.bit % 8 + n as usize <= 8 {
-            narrow(self.bytes, self.bit, n)
-        } else {
-            wide(self.bytes, self.bit, n)
-        }
+        bits(self.bytes, self.bit, n)
     }
 
     // The 0 bits from here on, up to a 1 bit, the input's end, or 32 of them.
@@ -119,7 +64,7 @@ impl<'a> Place<'a> {
         if end <= self.bit {
             return 0;
         }
-        let z = wide(self.bytes, self.bit, 32).leading_zeros();
+        let z = self.bits(32).leading_zeros();
         let left = end - self.bit;
         if left < z as usize { left as u32 } else { z }
     }

@@ -23,11 +23,11 @@ pub overflow_add-result : goal.overflow_add-result
 unfolding ue_value
 overflow_add-result c =
     let z = c.leading_zeros-z.result in
-    rw (one_shl 32 z (omega arith)) (omega (arith, ue-lt z c.wide.result (omega arith) (rw c.wide.ensures (field_lt _ _ z))))
+    rw (one_shl 32 z (omega arith)) (omega (arith, ue-lt z c.bits.result (omega arith) (rw c.bits.ensures (field_lt _ _ z))))
 
 pub returns : goal.returns
 returns c =
     let p = c.args.place in
     let z = c.leading_zeros-z.result in
     let e = sym c.leading_zeros-z.ensures.0 in
-    rw (one_shl 32 z (omega arith)) (let r = ue-given p.bytes.now p.bit p.short p.start e c.if-z-ge32.false c.suffix-s.ensures.0 c.wide.ensures c.lacks.ensures in record { field = r.0; lacking = r.1 })
+    rw (one_shl 32 z (omega arith)) (let r = ue-given p.bytes.now p.bit p.short p.start e c.if-z-ge32.false c.suffix-s.ensures.0 c.bits.ensures c.lacks.ensures in record { field = r.0; lacking = r.1 })

@@ -1,10 +1,8 @@
 -- `ue_of`: a code that the window holds, or any other as `long_ue` reads it.
 use mathlib.Core.Path.{refl, sym, ap, ◌∙◌}
 use native.Mathlib.Omega.{arith}
-use Rattle.std.proofs.Common.{◌≡◌, ◌<◌, Some}
 use Rattle.bitstream.specs.Fields.{lacks}
 use Rattle.bitstream.specs.Reading.{ue_lacking}
-use Rattle.bitstream.specs.Windows.{found}
 use Rattle.bitstream.proofs.CallLaws.{lacking-value, ue-in}
 use Rattle.bitstream.proofs.WindowLaws.{window-start, window-found, code-most}
 use Rattle.bitstream.proofs.bit_reader.ue_of.Goals as goal

@@ -1,5 +1,5 @@
 -- The bytes written and those still due make the whole; a turn writes the escape due, if any, and the byte.
-use Prim.Native.Nat.{◌+◌, ◌≤◌}
+use Prim.Native.Nat.{◌≤◌}
 use lib.ListN.{length, drop}
 use Rattle.bitstream.specs.Escapes as esc
 use Rattle.bitstream.proofs.Filling.{Filling}

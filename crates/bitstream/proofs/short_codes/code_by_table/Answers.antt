@@ -1,7 +1,5 @@
 -- `code_by_table`: the entry of the first nine bits, or the mark.
 use mathlib.Core.Path.{sym, ◌∙◌}
-use Prim.Native.Nat.{◌/◌, ◌^◌}
-use native.Mathlib.Omega.{arith}
 use borrow.Author.Tests.{eq-eqb, ne_eqb}
 use Rattle.bitstream.specs.Windows.{code_by}
 use Rattle.bitstream.proofs.short_codes.code_by_table.Goals as goal

@@ -1,5 +1,5 @@
 -- `u`: each return by the tests that led there.
-use Rattle.std.proofs.Common.{rules, ◌≡◌, ◌+◌, Err}
+use Rattle.std.proofs.Common.{rules, ◌≡◌, Err}
 use borrow.Author.Tests.{lt-ltb}
 use mathlib.Core.Path.{◌∙◌}
 use Rattle.bitstream.specs.Fields.{lacks, read_u}

@@ -11,7 +11,7 @@ use Rattle.bitstream.specs.Bits.{bit_at}
 use Rattle.bitstream.specs.Fields.{zeros_at, suffix_at, ue_value}
 use Rattle.bitstream.specs.Reading.{ue_at, ue_lacking}
 use Rattle.bitstream.proofs.ByteLaws.{one_shl}
-use Rattle.bitstream.proofs.FieldLaws.{bit-lt, one_bit, field_lt}
+use Rattle.bitstream.proofs.FieldLaws.{bit-lt, field_lt}
 use Rattle.bitstream.proofs.CodeLaws.{zeros-one, zeros-past, zeros-more, ue-lt}
 use Rattle.bitstream.proofs.CallLaws.{started-refused, lacking-refused, ue-given, ue-not}
 use Rattle.bitstream.proofs.bit_reader.BitReader.ue.Goals as goal
@@ -38,7 +38,7 @@ counted c =
         begins = rw (le-ltb e (length s * 8) (omega arith)) (omega arith);
       }
       | else-end-q+then-b-eq1 w ↦
-          let o : bit_at s l.q ≡ 1 = omega (arith, one_bit s l.q, w.narrow-b.ensures) in
+          let o : bit_at s l.q ≡ 1 = omega (arith, w.bit-b.ensures) in
           record {
             few = omega arith;
             near = omega arith;
@@ -54,7 +54,7 @@ one_more s p q z h l not i =
     let m = 32 - (z + 1) in
     let a : 32 - z ≡ suc m = omega arith in
     let b : suc q ≡ q + 1 = omega arith in
-    let o : bit_at s q ≡ 0 = omega (arith, one_bit s q, bit-lt s q, not) in
+    let o : bit_at s q ≡ 0 = omega (arith, bit-lt s q, not) in
     let e : zeros_at s q (32 - z) ≡ suc (zeros_at s (q + 1) m) = ap (zeros_at s q) a ∙ zeros-more s q m l o (ap (λ (x : ℕ). zeros_at s x m) b) in
     omega (arith, e)
 
@@ -68,7 +68,7 @@ returns-in_err-place c =
 pub returns-then-zeros-ge32 : goal.returns-then-zeros-ge32
 returns-then-zeros-ge32 c =
     let l = c.loop-q in
-    let more = one_more c.args.bytes.now c.args.self.bit_pos l.q l.zeros (omega arith) (omega arith) (omega (arith, c.narrow-b.ensures, one_bit c.args.bytes.now l.q)) l.invariant.2 in
+    let more = one_more c.args.bytes.now c.args.self.bit_pos l.q l.zeros (omega arith) (omega arith) (omega (arith, c.bit-b.ensures)) l.invariant.2 in
     let n = c.in_ok-place.ensures.inside in
     let r = ue-not c.args.bytes.now c.args.self.bit_pos n.0 n.1 more (omega arith) in
     record { field = r.0; lacking = r.1 }
@@ -76,10 +76,10 @@ returns-then-zeros-ge32 c =
 pub loop-q-preserved : goal.loop-q-preserved
 loop-q-preserved c =
     let l = c.loop-q in
-    omega (arith, one_more c.args.bytes.now c.args.self.bit_pos l.q l.zeros (omega arith) (omega arith) (omega (arith, c.narrow-b.ensures, one_bit c.args.bytes.now l.q)) l.invariant.2)
+    omega (arith, one_more c.args.bytes.now c.args.self.bit_pos l.q l.zeros (omega arith) (omega arith) (omega (arith, c.bit-b.ensures)) l.invariant.2)
 
-pub wide-suffix-requires : goal.wide-suffix-requires
-wide-suffix-requires c = omega (arith, (counted c).few, (counted c).near, c.in_ok-place.ensures.inside.1)
+pub bits-suffix-requires : goal.bits-suffix-requires
+bits-suffix-requires c = omega (arith, (counted c).few)
 
 pub overflow_add-after : goal.overflow_add-after
 overflow_add-after c =
@@ -99,7 +99,7 @@ unfolding ue_value
 overflow_add-code_num c =
     let k = counted (goal.at.overflow_add-code_num c).Joined-end-q in
     let z = c.if-end-q.leading_zero_bits in
-    rw (one_shl 32 z k.few) (omega (arith, ue-lt z c.wide-suffix.result k.few (rw c.wide-suffix.ensures (field_lt _ _ z))))
+    rw (one_shl 32 z k.few) (omega (arith, ue-lt z c.bits-suffix.result k.few (rw c.bits-suffix.ensures (field_lt _ _ z))))
 
 pub overflow_mul-leading_zero_bits : goal.overflow_mul-leading_zero_bits
 overflow_mul-leading_zero_bits c = omega (arith, (counted (goal.at.overflow_mul-leading_zero_bits c).Joined-end-q).few)
@@ -111,5 +111,5 @@ pub returns : goal.returns
 returns c =
     let k = counted (goal.at.returns c).Joined-end-q in
     let n = c.in_ok-place.ensures in
-    let r = ue-given c.args.bytes.now c.args.self.bit_pos n.inside.0 n.inside.1 k.all k.few k.begins c.wide-suffix.ensures (rw (n.ok.0, n.ok.1) at c.lacks.ensures) in
+    let r = ue-given c.args.bytes.now c.args.self.bit_pos n.inside.0 n.inside.1 k.all k.few k.begins c.bits-suffix.ensures (rw (n.ok.0, n.ok.1) at c.lacks.ensures) in
     rw (one_shl 32 c.if-end-q.leading_zero_bits k.few) (record { field = r.0; lacking = r.1 })

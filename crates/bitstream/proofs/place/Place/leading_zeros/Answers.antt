@@ -11,11 +11,11 @@ returns-then-end-self c = (sym (zeros-past _ _ 32 c.if-end-self.true), omega ari
 pub returns-then-left-z : goal.returns-then-left-z
 returns-then-left-z c =
     let a = c.args.self in
-    let e = c.wide-z.ensures in
-    (sym (zeros-ended a.bytes.now a.bit c.if-end-self.false (rw e at c.if-left-z.true)), omega (arith, leading_le 32 c.wide-z.result))
+    let e = c.bits-z.ensures in
+    (sym (zeros-ended a.bytes.now a.bit c.if-end-self.false (rw e at c.if-left-z.true)), omega (arith, leading_le 32 c.bits-z.result))
 
 pub returns-else-left-z : goal.returns-else-left-z
 returns-else-left-z c =
     let a = c.args.self in
-    let e = c.wide-z.ensures in
-    (rw e (sym (zeros-counted a.bytes.now a.bit c.if-end-self.false (rw e at c.if-left-z.false))), leading_le 32 c.wide-z.result)
+    let e = c.bits-z.ensures in
+    (rw e (sym (zeros-counted a.bytes.now a.bit c.if-end-self.false (rw e at c.if-left-z.false))), leading_le 32 c.bits-z.result)
