@@ -1,4 +1,5 @@
 -- What a function's proof rewrites with: how each piece is written, runs of them one after another, and the steps of a loop that writes an array.
+use Rattle.std.specs.Prelude.{Result, Ok, Err}
 use mathlib.Core.Path.{◌≡◌, refl, sym, ap, ◌∙◌}
 use mathlib.Core.Bool.{Bool, true, false, cond, ◌&&◌}
 use mathlib.Core.List.{List, [], ◌∷◌, ◌++◌}
@@ -7,10 +8,8 @@ use native.Mathlib.Nat.{add-zero, add_assoc, mul-suc, sub-zero}
 use native.Mathlib.Numerals.{add-one}
 use native.Mathlib.Omega.{arith}
 use lib.ListN.{length, drop, length-append}
-use Rattle.bitstream.specs.Outcome.{Outcome, value, refused, number, ◌then◌}
+use Rattle.bitstream.specs.Outcome.{Outcome, value, refused, number, ◌then◌, outcome_written}
 use Rattle.bitstream.specs.Bits.{put_bits}
-use Rattle.bitstream.specs.Writing.{outcome_w}
-use Rattle.bitstream.specs.declared.bit_writer.Written.{Written}
 use Rattle.bitstream.specs.declared.Refusal.{Refusal}
 use Rattle.bitstream.specs.declared.Refusal.TheVariants.{InvalidData}
 use Rattle.bitstream.proofs.CodeLaws.{value-refused}
@@ -222,10 +221,10 @@ module _ {A : Type 0} (k : ℕ → Codec A) (N : ℕ) (xs : List A) (from : Stop
 
 -- ---- a field that was written by the library below
 
-module _ {A : Type 0} (c : Codec A) (a : A) (m : ℕ) {from : Stop} {r : Written} (p : ℕ) (out out' : List ℕ) (start : from ≡ Stop.End p) (ok : c.ok a ≡ true)
-    (most : length (c.emit a) ≤ m) (wrote : outcome_w r out' ≡ value (put_bits out p (c.emit a)) (p + length (c.emit a))) where
+module _ {A : Type 0} (c : Codec A) (a : A) (m : ℕ) {from : Stop} {r : Result ℕ Refusal} (p : ℕ) (out out' : List ℕ) (start : from ≡ Stop.End p) (ok : c.ok a ≡ true)
+    (most : length (c.emit a) ≤ m) (wrote : outcome_written r out' ≡ value (put_bits out p (c.emit a)) (p + length (c.emit a))) where
   -- a field that was written there is written here
-  pub wrote-field : (q : ℕ) → r ≡ Written.To q → Wrote c a m from (Stop.End q) out out'
+  pub wrote-field : (q : ℕ) → r ≡ Ok q → Wrote c a m from (Stop.End q) out out'
   wrote-field q e =
       let f : value out' q ≡ value (put_bits out p (c.emit a)) (p + length (c.emit a)) = rw e at wrote in
       let x : out' ≡ put_bits out p (c.emit a) = cc in
@@ -233,7 +232,7 @@ module _ {A : Type 0} (c : Codec A) (a : A) (m : ℕ) {from : Stop} {r : Written
       wrote-taken c a m p q out out' start ok x y most
 
   -- and it is not refused there
-  pub field-wrote : (why : Refusal) {T : Type 0} → r ≡ Written.Refused why → T
+  pub field-wrote : (why : Refusal) {T : Type 0} → r ≡ Err why → T
   field-wrote why e =
       let f : refused (number why) ≡ value (put_bits out p (c.emit a)) (p + length (c.emit a)) = rw e at wrote in
       absurd (value-refused (sym f))

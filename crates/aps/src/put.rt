@@ -8,7 +8,7 @@ ghost use Rattle.aps.specs.Inner.{StopsBy, Wrote, unsent};
 
 use crate::fields::Stop;
 use bitstream::Refusal;
-use bitstream::bit_writer::{Written, write_bits, write_se, write_ue};
+use bitstream::bit_writer::{write_bits, write_se, write_ue};
 
 // u(n).
 pub(crate) fn put_u(out: &mut [u8], from: Stop, v: u32, n: u32) -> Stop
@@ -23,8 +23,8 @@ pub(crate) fn put_u(out: &mut [u8], from: Stop, v: u32, n: u32) -> Stop
         return Stop::Refused(Refusal::InvalidData);
     }
     match write_bits(out, at, v, n) {
-        Written::To(q) => Stop::End(q),
-        Written::Refused(why) => Stop::Refused(why),
+        Ok(q) => Stop::End(q),
+        Err(why) => Stop::Refused(why),
     }
 }
 
@@ -52,8 +52,8 @@ pub(crate) fn put_ue_to(out: &mut [u8], from: Stop, v: u32, most: u32) -> Stop
         return Stop::Refused(Refusal::InvalidData);
     }
     match write_ue(out, at, v) {
-        Written::To(q) => Stop::End(q),
-        Written::Refused(why) => Stop::Refused(why),
+        Ok(q) => Stop::End(q),
+        Err(why) => Stop::Refused(why),
     }
 }
 
@@ -73,8 +73,8 @@ pub(crate) fn put_se8(out: &mut [u8], from: Stop, v: i32) -> Stop
         return Stop::Refused(Refusal::InvalidData);
     }
     match write_se(out, at, v) {
-        Written::To(q) => Stop::End(q),
-        Written::Refused(why) => Stop::Refused(why),
+        Ok(q) => Stop::End(q),
+        Err(why) => Stop::Refused(why),
     }
 }
 

@@ -1,8 +1,8 @@
 // A set written as an RBSP or as a unit. After src/h266/aps.rs.
 ghost use Rattle.std.specs.Prelude.{◌≡◌, false, List, ℕ, length};
 ghost use Rattle.aps.specs.declared.aps.VvcAps.{VvcAps};
-ghost use Rattle.bitstream.specs.Outcome.{left};
-ghost use Rattle.bitstream.specs.Escapes.{outcome_size, put_bytes};
+ghost use Rattle.bitstream.specs.Outcome.{left, outcome_written};
+ghost use Rattle.bitstream.specs.Escapes.{put_bytes};
 ghost use Rattle.aps.specs.Codec.{u, ◌▷◌};
 ghost use Rattle.aps.specs.Elements.{flag};
 ghost use Rattle.aps.specs.ApsSyntax.{of_alf, of_lmcs, of_scaling, payload, aps};
@@ -20,8 +20,8 @@ use crate::put::{put_flag, put_none, put_u};
 use crate::scaling_list::VvcScalingListData;
 use crate::scaling_list_write::write_scaling_list_data;
 use crate::unit::is_aps;
-use bitstream::bit_writer::{Written, write_rbsp_trailing_bits};
-use bitstream::nal::{Size, rbsp_to_ebsp};
+use bitstream::bit_writer::write_rbsp_trailing_bits;
+use bitstream::nal::rbsp_to_ebsp;
 use bitstream::{LONGEST_INPUT, Refusal};
 
 // The payload of each kind; an id that the kind does not have is refused before a bit of the payload is written.
@@ -124,128 +124,140 @@ fn put_set(out: &mut [u8], set: VvcAps) -> Stop
 }
 
 // The stop bit and zeros to the end of the byte after a set that was put: how many bytes its RBSP has.
-fn put_end(buffer: &mut [u8], from: Stop) -> Size
+fn put_end(buffer: &mut [u8], from: Stop) -> Result<usize, Refusal>
     requires { (length buffer.old ≡ 4096) × StopsBy from 31258 }
     ensures { (a : VvcAps) (before : List ℕ) → Wrote aps a 31258 (Stop.End 0) from before buffer.old
-        → outcome_size result (first_bytes result buffer.new) ≡ rbsp_due a }
+        → outcome_written result (first_bytes result buffer.new) ≡ rbsp_due a }
 {
     match from {
         Stop::End(at) => match write_rbsp_trailing_bits(buffer, at) {
-            Written::To(end) => Size::Bytes(end / 8),
-            Written::Refused(why) => Size::Refused(why),
+            Ok(end) => Ok(end / 8),
+            Err(why) => Err(why),
         },
-        Stop::Refused(why) => Size::Refused(why),
+        Stop::Refused(why) => Err(why),
     }
 }
 
 // The RBSP of a set at the start of a buffer that has room for it.
-fn write_rbsp(set: VvcAps, buffer: &mut [u8]) -> Size
+fn write_rbsp(set: VvcAps, buffer: &mut [u8]) -> Result<usize, Refusal>
     requires { length buffer.old ≡ 4096 }
-    ensures { outcome_size result (first_bytes result buffer.new) ≡ bytes_due set }
+    ensures { outcome_written result (first_bytes result buffer.new) ≡ bytes_due set }
 {
     if set.aps_extension_flag {
-        return Size::Refused(Refusal::Unsupported);
+        return Err(Refusal::Unsupported);
     }
     let at = put_set(buffer, set);
     put_end(buffer, at)
 }
 
 // Bytes put at the start of the output if it has room for them.
-pub fn copy_out(bytes: &[u8], out: &mut [u8]) -> Size
-    ensures answer { outcome_size result out.new ≡ put_bytes out.old bytes.now }
+pub fn copy_out(bytes: &[u8], out: &mut [u8]) -> Result<usize, Refusal>
+    ensures answer { outcome_written result out.new ≡ put_bytes out.old bytes.now }
     ensures bytes { out.new ≡ left out.old (put_bytes out.old bytes.now) }
 {
     if out.len() < bytes.len() {
-        return Size::Refused(Refusal::OutputTooShort);
+        return Err(Refusal::OutputTooShort);
     }
     let mut i: usize = 0;
     while i < bytes.len() {
         out[i] = bytes[i];
         i += 1;
     }
-    Size::Bytes(bytes.len())
+    Ok(bytes.len())
 }
 
 // An RBSP as a unit: its header, then the RBSP with escapes put in. 2: the unit's type; 4; 5.
-pub fn write_nal(rbsp: &[u8], unit_type: u8, out: &mut [u8]) -> Size
-    ensures answer { outcome_size result out.new ≡ write_nal rbsp.now unit_type out.old }
+pub fn write_nal(rbsp: &[u8], unit_type: u8, out: &mut [u8]) -> Result<usize, Refusal>
+    ensures answer { outcome_written result out.new ≡ write_nal rbsp.now unit_type out.old }
     ensures bytes { out.new ≡ left out.old (write_nal rbsp.now unit_type out.old) }
 {
     if !is_aps(unit_type) {
-        return Size::Refused(Refusal::InvalidData);
+        return Err(Refusal::InvalidData);
     }
     if LONGEST_INPUT < rbsp.len() {
-        return Size::Refused(Refusal::InputTooLong);
+        return Err(Refusal::InputTooLong);
     }
     if out.len() < 2 {
-        return Size::Refused(Refusal::OutputTooShort);
+        return Err(Refusal::OutputTooShort);
     }
     match rbsp_to_ebsp(rbsp, &mut out[2..]) {
-        Size::Bytes(n) => {
+        Ok(n) => {
             out[0] = 0;
             out[1] = unit_type * 8 + 1;
-            Size::Bytes(n + 2)
+            Ok(n + 2)
         }
-        Size::Refused(short) => Size::Refused(short),
+        Err(short) => Err(short),
     }
 }
 
 // A set as an RBSP, stop bit and padding included.
-pub fn write_aps(set: VvcAps, out: &mut [u8]) -> Size
-    ensures answer { outcome_size result out.new ≡ write_aps set out.old }
+pub fn write_aps(set: VvcAps, out: &mut [u8]) -> Result<usize, Refusal>
+    ensures answer { outcome_written result out.new ≡ write_aps set out.old }
     ensures bytes { out.new ≡ left out.old (write_aps set out.old) }
 {
     let mut buffer = [0u8; 4096];
     match write_rbsp(set, &mut buffer) {
-        Size::Bytes(n) => copy_out(&buffer[..n], out),
-        Size::Refused(why) => Size::Refused(why),
+        Ok(n) => copy_out(&buffer[..n], out),
+        Err(why) => Err(why),
     }
 }
 
 // A set as a unit: its header, then the RBSP with escapes put in.
-pub fn write_aps_nal(set: VvcAps, unit_type: u8, out: &mut [u8]) -> Size
-    ensures answer { outcome_size result out.new ≡ write_aps_nal set unit_type out.old }
+pub fn write_aps_nal(set: VvcAps, unit_type: u8, out: &mut [u8]) -> Result<usize, Refusal>
+    ensures answer { outcome_written result out.new ≡ write_aps_nal set unit_type out.old }
     ensures bytes { out.new ≡ left out.old (write_aps_nal set unit_type out.old) }
 {
     if !is_aps(unit_type) {
-        return Size::Refused(Refusal::InvalidData);
+        return Err(Refusal::InvalidData);
     }
     let mut buffer = [0u8; 4096];
     match write_rbsp(set, &mut buffer) {
-        Size::Bytes(n) => write_nal(&buffer[..n], unit_type, out),
-        Size::Refused(why) => Size::Refused(why),
+        Ok(n) => write_nal(&buffer[..n], unit_type, out),
+        Err(why) => Err(why),
     }
 }
 
 // An ALF set as an RBSP, without the record of all three kinds.
-pub fn write_alf(id: u8, chroma: bool, extension: bool, d: VvcAlfData, out: &mut [u8]) -> Size
-    ensures answer { outcome_size result out.new ≡ write_aps (alf_set id chroma extension d) out.old }
+pub fn write_alf(
+    id: u8,
+    chroma: bool,
+    extension: bool,
+    d: VvcAlfData,
+    out: &mut [u8],
+) -> Result<usize, Refusal>
+    ensures answer { outcome_written result out.new ≡ write_aps (alf_set id chroma extension d) out.old }
     ensures bytes { out.new ≡ left out.old (write_aps (alf_set id chroma extension d) out.old) }
 {
     if extension {
-        return Size::Refused(Refusal::Unsupported);
+        return Err(Refusal::Unsupported);
     }
     let mut buffer = [0u8; 4096];
     let at = put_alf_set(&mut buffer, id, chroma, d);
     match put_end(&mut buffer, at) {
-        Size::Bytes(n) => copy_out(&buffer[..n], out),
-        Size::Refused(why) => Size::Refused(why),
+        Ok(n) => copy_out(&buffer[..n], out),
+        Err(why) => Err(why),
     }
 }
 
 // An LMCS set as an RBSP, without the record of all three kinds.
-pub fn write_lmcs(id: u8, chroma: bool, extension: bool, d: VvcLmcsData, out: &mut [u8]) -> Size
-    ensures answer { outcome_size result out.new ≡ write_aps (lmcs_set id chroma extension d) out.old }
+pub fn write_lmcs(
+    id: u8,
+    chroma: bool,
+    extension: bool,
+    d: VvcLmcsData,
+    out: &mut [u8],
+) -> Result<usize, Refusal>
+    ensures answer { outcome_written result out.new ≡ write_aps (lmcs_set id chroma extension d) out.old }
     ensures bytes { out.new ≡ left out.old (write_aps (lmcs_set id chroma extension d) out.old) }
 {
     if extension {
-        return Size::Refused(Refusal::Unsupported);
+        return Err(Refusal::Unsupported);
     }
     let mut buffer = [0u8; 4096];
     let at = put_lmcs_set(&mut buffer, id, chroma, d);
     match put_end(&mut buffer, at) {
-        Size::Bytes(n) => copy_out(&buffer[..n], out),
-        Size::Refused(why) => Size::Refused(why),
+        Ok(n) => copy_out(&buffer[..n], out),
+        Err(why) => Err(why),
     }
 }
 
@@ -256,17 +268,17 @@ pub fn write_scaling(
     extension: bool,
     d: VvcScalingListData,
     out: &mut [u8],
-) -> Size
-    ensures answer { outcome_size result out.new ≡ write_aps (scaling_set id chroma extension d) out.old }
+) -> Result<usize, Refusal>
+    ensures answer { outcome_written result out.new ≡ write_aps (scaling_set id chroma extension d) out.old }
     ensures bytes { out.new ≡ left out.old (write_aps (scaling_set id chroma extension d) out.old) }
 {
     if extension {
-        return Size::Refused(Refusal::Unsupported);
+        return Err(Refusal::Unsupported);
     }
     let mut buffer = [0u8; 4096];
     let at = put_scaling_set(&mut buffer, id, chroma, d);
     match put_end(&mut buffer, at) {
-        Size::Bytes(n) => copy_out(&buffer[..n], out),
-        Size::Refused(why) => Size::Refused(why),
+        Ok(n) => copy_out(&buffer[..n], out),
+        Err(why) => Err(why),
     }
 }

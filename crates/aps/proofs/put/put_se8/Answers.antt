@@ -22,20 +22,20 @@ returns-then-v-gt127 c =
     let a = c.args in
     wrote-not (se_in (negsuc 127) (pos 127)) a.v 17 _ a.out.now a.out.now c.in-End.is (se8-high a.v (rw (to_z-of_z c.ranges.v) at c.if-v-gt127.true))
 
-pub returns-in-To : goal.returns-in-To
-returns-in-To c =
+pub returns-in-Ok : goal.returns-in-Ok
+returns-in-Ok c =
     let a = c.args in
     let h : c.in-End.p ≤ 32700 = rw c.in-End.is at c.requires.1 in
     let low = rw (to_z-of_z c.ranges.v) at c.if-v-ltminus128.false in
     let high = rw (to_z-of_z c.ranges.v) at c.if-v-gt127.false in
     wrote-field (se_in (negsuc 127) (pos 127)) a.v 17 c.in-End.p _ _ c.in-End.is (se8-fits a.v low high) (se8-bits a.v low high)
-    ((rw (to_z-of_z c.ranges.v) at c.write_se.ensures.answer) ∙ se8-wrote a.v low high a.out.now c.in-End.p (omega (arith, c.requires.0)) (omega arith)) _ c.in-To.is
+    ((rw (to_z-of_z c.ranges.v) at c.write_se.ensures.answer) ∙ se8-wrote a.v low high a.out.now c.in-End.p (omega (arith, c.requires.0)) (omega arith)) _ c.in-Ok.is
 
-pub returns-in-Refused-write_se : goal.returns-in-Refused-write_se
-returns-in-Refused-write_se c =
+pub returns-in-Err : goal.returns-in-Err
+returns-in-Err c =
     let a = c.args in
     let h : c.in-End.p ≤ 32700 = rw c.in-End.is at c.requires.1 in
     let low = rw (to_z-of_z c.ranges.v) at c.if-v-ltminus128.false in
     let high = rw (to_z-of_z c.ranges.v) at c.if-v-gt127.false in
     field-wrote (se_in (negsuc 127) (pos 127)) a.v 17 c.in-End.p _ _ c.in-End.is (se8-fits a.v low high) (se8-bits a.v low high)
-    ((rw (to_z-of_z c.ranges.v) at c.write_se.ensures.answer) ∙ se8-wrote a.v low high a.out.now c.in-End.p (omega (arith, c.requires.0)) (omega arith)) _ c.in-Refused-write_se.is
+    ((rw (to_z-of_z c.ranges.v) at c.write_se.ensures.answer) ∙ se8-wrote a.v low high a.out.now c.in-End.p (omega (arith, c.requires.0)) (omega arith)) _ c.in-Err.is

@@ -43,18 +43,18 @@ pub returns-then-n-v : goal.returns-then-n-v
 returns-then-n-v c =
     wrote-not (u c.args.n) c.args.v c.args.n _ c.args.out.now c.args.out.now c.in-End.is (wide c.args.n c.args.v (omega (arith, limit c.args.n c.requires.2)))
 
-pub returns-in-To : goal.returns-in-To
-returns-in-To c =
+pub returns-in-Ok : goal.returns-in-Ok
+returns-in-Ok c =
     let n = c.args.n in
     let v = c.args.v in
     let h : c.in-End.p ≤ 32700 = rw c.in-End.is at c.requires.1 in
     let s = wrote c.args.out.now c.in-End.p v n (omega (arith, c.requires.0)) c.requires.2 (omega arith) in
-    wrote-field (u n) v n c.in-End.p _ _ c.in-End.is (fits n v (omega (arith, limit n c.requires.2))) (most n v) (c.write_bits.ensures.answer ∙ s) _ c.in-To.is
+    wrote-field (u n) v n c.in-End.p _ _ c.in-End.is (fits n v (omega (arith, limit n c.requires.2))) (most n v) (c.write_bits.ensures.answer ∙ s) _ c.in-Ok.is
 
-pub returns-in-Refused-write_bits : goal.returns-in-Refused-write_bits
-returns-in-Refused-write_bits c =
+pub returns-in-Err : goal.returns-in-Err
+returns-in-Err c =
     let n = c.args.n in
     let v = c.args.v in
     let h : c.in-End.p ≤ 32700 = rw c.in-End.is at c.requires.1 in
     let s = wrote c.args.out.now c.in-End.p v n (omega (arith, c.requires.0)) c.requires.2 (omega arith) in
-    field-wrote (u n) v n c.in-End.p _ _ c.in-End.is (fits n v (omega (arith, limit n c.requires.2))) (most n v) (c.write_bits.ensures.answer ∙ s) _ c.in-Refused-write_bits.is
+    field-wrote (u n) v n c.in-End.p _ _ c.in-End.is (fits n v (omega (arith, limit n c.requires.2))) (most n v) (c.write_bits.ensures.answer ∙ s) _ c.in-Err.is

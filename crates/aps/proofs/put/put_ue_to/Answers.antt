@@ -16,18 +16,18 @@ returns-then-most-v c =
     let a = c.args in
     wrote-not (ue_to a.most) a.v (2 * ue_zeros a.most + 1) _ a.out.now a.out.now c.in-End.is (ue_to-wide a.most a.v (omega arith))
 
-pub returns-in-To : goal.returns-in-To
-returns-in-To c =
+pub returns-in-Ok : goal.returns-in-Ok
+returns-in-Ok c =
     let a = c.args in
     let h : c.in-End.p ≤ 32700 = rw c.in-End.is at c.requires.1 in
     let l : a.v ≤ a.most = omega arith in
     wrote-field (ue_to a.most) a.v (2 * ue_zeros a.most + 1) c.in-End.p _ _ c.in-End.is (ue_to-fits a.most a.v c.requires.2 l) (ue_to-bits a.most a.v c.requires.2 l)
-    (c.write_ue.ensures.answer ∙ ue_to-wrote a.out.now c.in-End.p a.most a.v (omega arith) (omega (arith, c.requires.0)) (omega arith)) _ c.in-To.is
+    (c.write_ue.ensures.answer ∙ ue_to-wrote a.out.now c.in-End.p a.most a.v (omega arith) (omega (arith, c.requires.0)) (omega arith)) _ c.in-Ok.is
 
-pub returns-in-Refused-write_ue : goal.returns-in-Refused-write_ue
-returns-in-Refused-write_ue c =
+pub returns-in-Err : goal.returns-in-Err
+returns-in-Err c =
     let a = c.args in
     let h : c.in-End.p ≤ 32700 = rw c.in-End.is at c.requires.1 in
     let l : a.v ≤ a.most = omega arith in
     field-wrote (ue_to a.most) a.v (2 * ue_zeros a.most + 1) c.in-End.p _ _ c.in-End.is (ue_to-fits a.most a.v c.requires.2 l) (ue_to-bits a.most a.v c.requires.2 l)
-    (c.write_ue.ensures.answer ∙ ue_to-wrote a.out.now c.in-End.p a.most a.v (omega arith) (omega (arith, c.requires.0)) (omega arith)) _ c.in-Refused-write_ue.is
+    (c.write_ue.ensures.answer ∙ ue_to-wrote a.out.now c.in-End.p a.most a.v (omega arith) (omega (arith, c.requires.0)) (omega arith)) _ c.in-Err.is

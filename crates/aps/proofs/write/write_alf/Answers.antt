@@ -10,14 +10,14 @@ use Rattle.aps.specs.declared.aps.VvcAps.{VvcAps}
 use Rattle.aps.proofs.RbspWrites.{due-extended, due-put-together}
 use Rattle.aps.proofs.UnitWrites.{answered-as, aps-refused, due-length, aps-bytes, taken-within}
 use Rattle.aps.proofs.write.write_alf.Goals as goal
-use Rattle.aps.proofs.write.write_alf.Goals.{In-Bytes}
+use Rattle.aps.proofs.write.write_alf.Goals.{In-Ok}
 
 -- the bytes at the start of the buffer are those of the set
-due : (c : In-Bytes) → value (take c.in-Bytes.n c.put_end.new.buffer) c.in-Bytes.n ≡ bytes_due (alf_set c.args.id c.args.chroma c.args.extension c.args.d)
+due : (c : In-Ok) → value (take c.in-Ok.n c.put_end.new.buffer) c.in-Ok.n ≡ bytes_due (alf_set c.args.id c.args.chroma c.args.extension c.args.d)
 unfolding alf_set
 due c =
     let with_flag : Bool → VvcAps = λ x. alf_set c.args.id c.args.chroma x c.args.d in
-    (rw c.in-Bytes.is at (c.put_end.ensures (with_flag false) _ c.put_alf_set-at.ensures)) ∙ due-put-together with_flag c.args.extension (λ x. refl) c.if-extension.false
+    (rw c.in-Ok.is at (c.put_end.ensures (with_flag false) _ c.put_alf_set-at.ensures)) ∙ due-put-together with_flag c.args.extension (λ x. refl) c.if-extension.false
 
 pub returns-then-extension : goal.returns-then-extension
 unfolding alf_set
@@ -35,17 +35,17 @@ slice_bounds-buffer-end c =
 
 pub slice_bounds-copy_out-end : goal.slice_bounds-copy_out-end
 slice_bounds-copy_out-end c =
-    sym (due-length (alf_set c.args.id c.args.chroma c.args.extension c.args.d) c.args.out.now _ _ (due (goal.at.slice_bounds-copy_out-end c).In-Bytes))
+    sym (due-length (alf_set c.args.id c.args.chroma c.args.extension c.args.d) c.args.out.now _ _ (due (goal.at.slice_bounds-copy_out-end c).In-Ok))
 
-pub returns-in-Bytes : goal.returns-in-Bytes
-returns-in-Bytes c =
+pub returns-in-Ok : goal.returns-in-Ok
+returns-in-Ok c =
     let out = c.args.out.now in
-    let r = answered-as out (aps-bytes (alf_set c.args.id c.args.chroma c.args.extension c.args.d) out _ _ (due (goal.at.returns-in-Bytes c).In-Bytes)) (c.copy_out.ensures.answer, c.copy_out.ensures.bytes) in record { answer = r.0; bytes = r.1 }
+    let r = answered-as out (aps-bytes (alf_set c.args.id c.args.chroma c.args.extension c.args.d) out _ _ (due (goal.at.returns-in-Ok c).In-Ok)) (c.copy_out.ensures.answer, c.copy_out.ensures.bytes) in record { answer = r.0; bytes = r.1 }
 
-pub returns-in-Refused : goal.returns-in-Refused
+pub returns-in-Err : goal.returns-in-Err
 unfolding alf_set
-returns-in-Refused c =
+returns-in-Err c =
     let with_flag : Bool → VvcAps = λ x. alf_set c.args.id c.args.chroma x c.args.d in
     let plain = due-put-together with_flag c.args.extension (λ x. refl) c.if-extension.false in
-    let r = aps-refused (alf_set c.args.id c.args.chroma c.args.extension c.args.d) c.args.out.now _ ((rw c.in-Refused.is at (c.put_end.ensures (with_flag false) _ c.put_alf_set-at.ensures)) ∙ plain) in
+    let r = aps-refused (alf_set c.args.id c.args.chroma c.args.extension c.args.d) c.args.out.now _ ((rw c.in-Err.is at (c.put_end.ensures (with_flag false) _ c.put_alf_set-at.ensures)) ∙ plain) in
     record { answer = r.0; bytes = r.1 }

@@ -12,7 +12,7 @@ use Rattle.bitstream.specs.Escapes.{rbsp_to_ebsp}
 use Rattle.aps.specs.Unit.{is_aps}
 use Rattle.aps.proofs.UnitWrites.{answered-as, aps-type, unit-type, unit-long, unit-due, unit-short, unit-within, unit-put, unit-refused}
 use Rattle.aps.proofs.write.write_nal.Goals as goal
-use Rattle.aps.proofs.write.write_nal.Goals.{Else-not-is_aps, In-Bytes}
+use Rattle.aps.proofs.write.write_nal.Goals.{Else-not-is_aps, In-Ok}
 
 -- what was judged: the type is one of a set's
 judged : (c : Else-not-is_aps) → is_aps c.args.unit_type ≡ true
@@ -20,7 +20,7 @@ judged c =
     sym c.is_aps.ensures ∙ c.if-not-is_aps.false
 
 -- the type is below 32
-below : (c : In-Bytes) → c.args.unit_type < 32
+below : (c : In-Ok) → c.args.unit_type < 32
 below c =
     let judged : is_aps c.args.unit_type ≡ true = sym c.is_aps.ensures ∙ c.if-not-is_aps.false in
     aps-type _ judged
@@ -55,22 +55,22 @@ bounds-out-1 c =
 
 pub overflow_add-result : goal.overflow_add-result
 overflow_add-result c =
-    let e : value c.rbsp_to_ebsp.new.out c.in-Bytes.n ≡ rbsp_to_ebsp c.args.rbsp.now (mid_of 2 (length c.args.out.now - 2) c.args.out.now)
-    = rw c.in-Bytes.is at c.rbsp_to_ebsp.ensures.answer in
+    let e : value c.rbsp_to_ebsp.new.out c.in-Ok.n ≡ rbsp_to_ebsp c.args.rbsp.now (mid_of 2 (length c.args.out.now - 2) c.args.out.now)
+    = rw c.in-Ok.is at c.rbsp_to_ebsp.ensures.answer in
     omega (arith, unit-within c.args.out.now c.args.rbsp.now c.args.unit_type (omega arith) (omega arith) _ _ e, c.well_formed)
 
-pub returns-in-Bytes : goal.returns-in-Bytes
-returns-in-Bytes c =
+pub returns-in-Ok : goal.returns-in-Ok
+returns-in-Ok c =
     let a = c.args in
-    let e : value c.rbsp_to_ebsp.new.out c.in-Bytes.n ≡ rbsp_to_ebsp a.rbsp.now (mid_of 2 (length a.out.now - 2) a.out.now)
-    = rw c.in-Bytes.is at c.rbsp_to_ebsp.ensures.answer in
-    let r = answered-as a.out.now (unit-due a.out.now a.rbsp.now a.unit_type (judged (goal.at.returns-in-Bytes c).Else-not-is_aps) (omega arith))
+    let e : value c.rbsp_to_ebsp.new.out c.in-Ok.n ≡ rbsp_to_ebsp a.rbsp.now (mid_of 2 (length a.out.now - 2) a.out.now)
+    = rw c.in-Ok.is at c.rbsp_to_ebsp.ensures.answer in
+    let r = answered-as a.out.now (unit-due a.out.now a.rbsp.now a.unit_type (judged (goal.at.returns-in-Ok c).Else-not-is_aps) (omega arith))
     (unit-put a.out.now a.rbsp.now a.unit_type (omega arith) (omega arith) _ _ e) in record { answer = r.0; bytes = r.1 }
 
-pub returns-in-Refused : goal.returns-in-Refused
-returns-in-Refused c =
+pub returns-in-Err : goal.returns-in-Err
+returns-in-Err c =
     let a = c.args in
-    let e : refused (number c.in-Refused.short) ≡ rbsp_to_ebsp a.rbsp.now (mid_of 2 (length a.out.now - 2) a.out.now)
-    = rw c.in-Refused.is at c.rbsp_to_ebsp.ensures.answer in
-    let r = answered-as a.out.now (unit-due a.out.now a.rbsp.now a.unit_type (judged (goal.at.returns-in-Refused c).Else-not-is_aps) (omega arith))
+    let e : refused (number c.in-Err.short) ≡ rbsp_to_ebsp a.rbsp.now (mid_of 2 (length a.out.now - 2) a.out.now)
+    = rw c.in-Err.is at c.rbsp_to_ebsp.ensures.answer in
+    let r = answered-as a.out.now (unit-due a.out.now a.rbsp.now a.unit_type (judged (goal.at.returns-in-Err c).Else-not-is_aps) (omega arith))
     (unit-refused a.out.now a.rbsp.now a.unit_type (omega arith) (omega arith) _ _ e c.rbsp_to_ebsp.ensures.bytes) in record { answer = r.0; bytes = r.1 }
