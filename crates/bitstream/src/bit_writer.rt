@@ -22,6 +22,7 @@ fn put_bits(out: &mut [u8], at: usize, v: u64, n: u32)
 {
     let mut p = at;
     let mut left = n as usize;
+    // No index is counted here: a turn writes as many bits as the byte has left.
     while 0 < left {
         let i = p / 8;
         let k = p % 8;

@@ -51,7 +51,7 @@ fn put_if(out: &mut [u8], o: usize, yes: bool, b: u8) -> usize
     o
 }
 
-// The length with escapes removed.
+// The length with escapes removed. An iterator of these bytes, for this and the write, would carry the same variables and be longer.
 fn unescaped_len(src: &[u8]) -> usize
     requires { length src.now ≤ 65536 }
     ensures { result ≡ length (unescape src.now) }
@@ -80,7 +80,7 @@ fn unescape_into(src: &[u8], out: &mut [u8]) -> usize
     o
 }
 
-// The length with escapes put in.
+// The length with escapes put in, beside the write as above.
 fn escaped_len(src: &[u8]) -> usize
     requires { length src.now ≤ 65536 }
     ensures { result ≡ length (escape src.now) }

@@ -4,7 +4,7 @@ ghost use Rattle.bitstream.specs.Windows.{ShortCodes, code_by, code_in, found};
 
 use crate::window::{Code, code_in};
 
-// For each value of the next nine bits 16 times the value of the ue that they begin with, and its bits; 0 where it is longer.
+// 1 KB: entries of Option<Code> would be 12 KB, made anew for each set. For each value of the next nine bits 16 times the value of the ue that they begin with, and its bits; 0 where it is longer.
 pub const SHORT_CODES: [u16; 512] = [
     0, 0, 0, 0, 0, 0, 0, 0, 0, 0, 0, 0, 0, 0, 0, 0, 249, 265, 281, 297, 313, 329, 345, 361, 377,
     393, 409, 425, 441, 457, 473, 489, 119, 119, 119, 119, 135, 135, 135, 135, 151, 151, 151, 151,

@@ -31,7 +31,7 @@ pub fn window(bytes: &[u8], p: usize) -> u64
     window_alone(bytes, p)
 }
 
-// The same, and a call, so that `window` is small enough to stand in a loop. Near the end it is the last eight bytes, moved up.
+// The same, and a call, so that `window` is small enough to stand in a loop: one body for both was slower. Near the end it is the last eight bytes, moved up.
 pub fn window_alone(bytes: &[u8], p: usize) -> u64
     ensures { result ≡ window_at bytes.now p }
 {
