@@ -34,6 +34,7 @@ pub mod RbspSteps
 pub mod UnitSteps
 pub mod WriterLaws
 pub mod FieldWrites
+pub mod EntryWrites
 pub mod WriteSteps
 pub mod SentWrites
 pub mod PutLaws

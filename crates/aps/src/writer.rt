@@ -1,5 +1,5 @@
 // The fields of a set, written into a buffer that has room for them: as the description writes them, and 2 where it does not take a value.
-ghost use Rattle.std.specs.Prelude.{◌≡◌, not, ◌+◌, ◌*◌, ◌≤◌, ◌<◌, eqb, pos, negsuc};
+ghost use Rattle.std.specs.Prelude.{◌≡◌, ◌+◌, ◌*◌, ◌≤◌, ◌<◌, pos, negsuc, OnOk};
 ghost use Rattle.bitstream.specs.Fields.{ue_zeros};
 ghost use Rattle.aps.specs.Codec.{u};
 ghost use Rattle.aps.specs.Elements.{flag, ue_to, se_in, signed};
@@ -48,6 +48,7 @@ impl Writer {
         requires { (self.old.at ≤ 32700) × (most < 4294967295) }
         ensures wrote { Wrote (ue_to most) v self.old self.new result }
         ensures within { self.new.at ≤ self.old.at + (2 * ue_zeros most + 1) }
+        ensures taken { OnOk result (v ≤ most) }
     {
         if most < v {
             return Err(Refusal::InvalidData);

@@ -18,6 +18,7 @@ returns-in-To c =
     record {
       wrote = wrote-taken (ue_to-fits a.most a.v c.requires.1 l) e;
       within = omega (arith, field-end e, ue_to-bits a.most a.v c.requires.1 l);
+      taken = l;
     }
 
 pub returns-in-Refused-clause-wrote : goal.returns-in-Refused-clause-wrote
