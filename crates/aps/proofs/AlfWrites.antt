@@ -23,7 +23,7 @@ use Rattle.aps.specs.declared.fields.Stop.{Stop}
 use Rattle.aps.proofs.PairLaws.{zipped-length}
 use Rattle.aps.proofs.WriteSteps.{wrote-more, wrote-via, wrote-▷}
 use Rattle.aps.proofs.SentWrites.{part_none, part-bad, part-sent}
-use Rattle.aps.proofs.PutLaws.{ue_to-wide}
+use Rattle.aps.proofs.FieldWrites.{ue_to-wide}
 use Rattle.aps.proofs.ArrayWrites.{one-fails, zipped-every}
 
 -- ---- parts of which nothing is sent

@@ -13,13 +13,15 @@ use lib.Seq.{drop-cons, drop-length, drop-drop}
 use Rattle.bitstream.specs.Outcome.{value, refused, ◌then◌}
 use Rattle.aps.specs.Codec.{Codec, Inferred, when, each_from, each}
 use Rattle.aps.specs.Elements.{no_pair, every, zipped, apart, rows_of}
-use Rattle.aps.specs.Inner.{Spans, writes, Wrote, unsent}
+use Rattle.aps.specs.Writes.{writes}
+use Rattle.aps.specs.Inner.{Spans, Wrote, unsent}
 use Rattle.aps.specs.declared.fields.Stop.{Stop}
 use Rattle.aps.proofs.EachLaws.{each_same}
 use Rattle.aps.proofs.ElementLaws.{length-rows}
 use Rattle.aps.proofs.PairLaws.{zipped-length}
 use Rattle.aps.proofs.StopLaws.{after_same}
-use Rattle.aps.proofs.WriteSteps.{writes-none, writes-nil, writes-cons, writes-via, wrote_as, wrote-when, wrote-via, Writing, writing_start, writing_more, writing-done}
+use Rattle.aps.proofs.WriterLaws.{writes-none, writes-nil, writes-cons, writes-via}
+use Rattle.aps.proofs.WriteSteps.{wrote_as, wrote-when, wrote-via, Writing, writing_start, writing_more, writing-done}
 use Rattle.aps.proofs.SentWrites.{unsent-both, unsent-answer, unsent-spans, spans-here}
 
 -- ---- arrays whose entries all pass a test, looked at one after another

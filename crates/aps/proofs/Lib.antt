@@ -32,6 +32,9 @@ pub mod ScalingKeep
 pub mod ScalingSteps
 pub mod RbspSteps
 pub mod UnitSteps
+pub mod WriterLaws
+pub mod FieldWrites
+pub mod EntryWrites
 pub mod WriteSteps
 pub mod SentWrites
 pub mod PutLaws

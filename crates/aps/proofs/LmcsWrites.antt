@@ -14,7 +14,8 @@ use Rattle.aps.specs.Inner.{Wrote, unsent}
 use Rattle.aps.specs.declared.fields.Stop.{Stop}
 use Rattle.aps.specs.declared.lmcs.VvcLmcsData.{VvcLmcsData}
 use Rattle.aps.proofs.LmcsSteps.{in-range, bin}
-use Rattle.aps.proofs.WriteSteps.{writes-judged, wrote_as, wrote-judged, wrote-via, wrote-▷}
+use Rattle.aps.proofs.WriterLaws.{writes-judged}
+use Rattle.aps.proofs.WriteSteps.{wrote_as, wrote-judged, wrote-via, wrote-▷}
 use Rattle.aps.proofs.SentWrites.{unsent-both, when-unsent}
 use Rattle.aps.proofs.ArrayWrites.{wrote-apart}
 

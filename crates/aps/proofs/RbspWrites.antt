@@ -25,7 +25,8 @@ use Rattle.aps.specs.LmcsSyntax.{lmcs}
 use Rattle.aps.specs.ScalingSyntax.{Entry, scaling_syntax}
 use Rattle.aps.specs.ApsSyntax.{of_alf, of_lmcs, of_scaling, alf_in, lmcs_in, entries_in, is_alf, is_lmcs, is_scaling, payload, ApsData, aps_syntax, to_aps, number_of, payload_of, from_aps, aps}
 use Rattle.aps.specs.Rbsp.{rbsp_bits, rbsp_bytes}
-use Rattle.aps.specs.Inner.{writes, Wrote}
+use Rattle.aps.specs.Writes.{writes}
+use Rattle.aps.specs.Inner.{Wrote}
 use Rattle.aps.specs.Writing.{bytes_due, rbsp_due}
 use Rattle.aps.specs.declared.aps.ApsKind.{ApsKind}
 use Rattle.aps.specs.declared.aps.VvcAps.{VvcAps}
@@ -34,7 +35,8 @@ use Rattle.aps.specs.declared.alf.VvcAlfData.{VvcAlfData}
 use Rattle.aps.specs.declared.lmcs.VvcLmcsData.{VvcLmcsData}
 use Rattle.aps.proofs.PackLaws.{pack-is}
 use Rattle.aps.proofs.RbspLaws.{length-rbsp, bits-rbsp}
-use Rattle.aps.proofs.WriteSteps.{writes-via, wrote_as, wrote-▷, wrote-more, wrote-judged, wrote-provided, wrote-via}
+use Rattle.aps.proofs.WriterLaws.{writes-via}
+use Rattle.aps.proofs.WriteSteps.{wrote_as, wrote-▷, wrote-more, wrote-judged, wrote-provided, wrote-via}
 
 -- ---- the payload
 

@@ -1,97 +1,24 @@
 -- What a function's proof rewrites with: how each piece is written, runs of them one after another, and the steps of a loop that writes an array.
 use Rattle.std.specs.Prelude.{Result, Ok, Err}
 use mathlib.Core.Path.{◌≡◌, refl, sym, ap, ◌∙◌}
-use mathlib.Core.Bool.{Bool, true, false, cond, ◌&&◌}
-use mathlib.Core.List.{List, [], ◌∷◌, ◌++◌}
+use mathlib.Core.Bool.{Bool, true, false}
+use mathlib.Core.List.{List, [], ◌∷◌}
 use Prim.Native.Nat.{ℕ, suc, ◌+◌, ◌-◌, ◌*◌, ◌≤◌, ◌<◌}
-use native.Mathlib.Nat.{add-zero, add_assoc, mul-suc, sub-zero}
+use native.Mathlib.Nat.{add_assoc, mul-suc, sub-zero}
 use native.Mathlib.Numerals.{add-one}
 use native.Mathlib.Omega.{arith}
-use lib.ListN.{length, drop, length-append}
+use lib.ListN.{length, drop}
 use Rattle.bitstream.specs.Outcome.{Outcome, value, refused, number, ◌then◌, outcome_written}
 use Rattle.bitstream.specs.Bits.{put_bits}
 use Rattle.bitstream.specs.declared.Refusal.{Refusal}
 use Rattle.bitstream.specs.declared.Refusal.TheVariants.{InvalidData}
 use Rattle.bitstream.proofs.CodeLaws.{value-refused}
-use Rattle.bitstream.proofs.WriteLaws.{puts-append}
 use Rattle.aps.specs.Codec.{Codec, ◌▷◌, via, judged, Inferred, when, each_from, each, provided}
-use Rattle.aps.specs.Inner.{outcome_stop, after, Spans, writes, Wrote, unsent}
+use Rattle.aps.specs.Writes.{writes}
+use Rattle.aps.specs.Inner.{outcome_stop, after, Spans, Wrote, unsent}
 use Rattle.aps.specs.declared.fields.Stop.{Stop}
+use Rattle.aps.proofs.WriterLaws.{writes-taken, writes-not, writes-when, writes-none, writes-judged, writes-provided, writes-via, writes-▷, writes-nil, writes-cons}
 use Rattle.aps.proofs.StopLaws.{after_same, after-end}
-
--- ---- how each piece is written
-
--- two tests at once are one after the other
-cond_both : {A : Type 0} (x y : Bool) (a b : A) → cond (x && y) a b ≡ cond y (cond x a b) b
-cond_both true true a b = refl
-cond_both true false a b = refl
-cond_both false true a b = refl
-cond_both false false a b = refl
-
--- bits put at once, where both parts are taken, are put one part after the other
-puts-both : (out : List ℕ) (p : ℕ) (e f : List ℕ) (x y : Bool) → cond (x && y) (value (put_bits out p (e ++ f)) (p + length (e ++ f))) (refused 2)
-    ≡ (cond x (value (put_bits out p e) (p + length e)) (refused 2) then λ o q. cond y (value (put_bits o q f) (q + length f)) (refused 2))
-puts-both out p e f true true = rw (puts-append out p e f, length-append e f, add_assoc p (length e) (length f))
-puts-both out p e f true false = refl
-puts-both out p e f false y = refl
-
-module _ {A : Type 0} where
-  -- a value that is taken is put as its bits
-  pub writes-taken : (c : Codec A) (a : A) (out : List ℕ) (p : ℕ) → c.ok a ≡ true → writes c a out p ≡ value (put_bits out p (c.emit a)) (p + length (c.emit a))
-  unfolding writes
-  writes-taken c a out p o = rw o
-
-  -- a value that is not taken is refused
-  pub writes-not : (c : Codec A) (a : A) (out : List ℕ) (p : ℕ) → c.ok a ≡ false → writes c a out p ≡ refused 2
-  unfolding writes
-  writes-not c a out p o = rw o
-
-  -- one that is sent is written as it is
-  pub writes-when : (d : Inferred A) (c : Codec A) (a : A) (out : List ℕ) (p : ℕ) → writes (when true d c) a out p ≡ writes c a out p
-  unfolding writes when
-  writes-when d c a out p = refl
-
-  -- where nothing is sent
-  pub writes-none : (d : Inferred A) (c : Codec A) (a : A) (out : List ℕ) (p : ℕ) → writes (when false d c) a out p ≡ cond (d.is a) (value out p) (refused 2)
-  unfolding writes when put_bits
-  writes-none d c a out p = rw (add-zero p)
-
-  -- one that is judged is written where it passes the test
-  pub writes-judged : (test : A → Bool) (c : Codec A) (a : A) (out : List ℕ) (p : ℕ) → writes (judged test c) a out p ≡ cond (test a) (writes c a out p) (refused 2)
-  unfolding writes judged
-  writes-judged test c a out p = cond_both (c.ok a) (test a) _ (refused 2)
-
-  -- one that is provided for is written where the condition holds
-  pub writes-provided : (b : Bool) (c : Codec A) (a : A) (out : List ℕ) (p : ℕ) → writes (provided b c) a out p ≡ cond b (writes c a out p) (refused 2)
-  unfolding writes provided
-  writes-provided true c a out p = refl
-  writes-provided false c a out p = refl
-
-module _ {A B : Type 0} where
-  -- one in another shape is written as the value of that shape
-  pub writes-via : (to : A → B) (from : B → A) (test : B → Bool) (c : Codec A) (b : B) (out : List ℕ) (p : ℕ)
-      → writes (via to from test c) b out p ≡ cond (test b) (writes c (from b) out p) (refused 2)
-  unfolding writes via
-  writes-via to from test c b out p = cond_both (c.ok (from b)) (test b) _ (refused 2)
-
-  -- two values are written one after the other
-  pub writes-▷ : (c : Codec A) (k : A → Codec B) (a : A) (b : B) (out : List ℕ) (p : ℕ)
-      → writes (c ▷ k) (a, b) out p ≡ (writes c a out p then λ o q. writes (k a) b o q)
-  unfolding writes ◌▷◌
-  writes-▷ c k a b out p = puts-both out p (c.emit a) ((k a).emit b) (c.ok a) ((k a).ok b)
-
--- the entries of an array one after another
-module _ {A : Type 0} (k : ℕ → Codec A) where
-  -- no entries are nothing to write
-  pub writes-nil : (i : ℕ) (out : List ℕ) (p : ℕ) → writes (each_from i 0 k) [] out p ≡ value out p
-  unfolding writes each_from put_bits
-  writes-nil i out p = rw (add-zero p)
-
-  -- an entry is written, then those after it
-  pub writes-cons : (i n : ℕ) (x : A) (xs : List A) (out : List ℕ) (p : ℕ)
-      → writes (each_from i (suc n) k) (x ∷ xs) out p ≡ (writes (k i) x out p then λ o q. writes (each_from (suc i) n k) xs o q)
-  unfolding writes each_from
-  writes-cons i n x xs out p = puts-both out p ((k i).emit x) ((each_from (suc i) n k).emit xs) ((k i).ok x) ((each_from (suc i) n k).ok xs)
 
 -- ---- runs
 

@@ -2,12 +2,13 @@
 use Rattle.std.specs.Prelude.{◌≡◌, Bool, true, false, cond, not, List, [], ◌∷◌, ℕ, ◌+◌, ◌*◌, ◌/◌, ◌%◌, ◌^◌, ◌≤◌, eqb, ltb, ℤ, length, take, Result, Ok, Err}
 use Rattle.std.proofs.lemmas.List.Edits.{sets}
 use Rattle.bitstream.specs.Outcome.{Outcome, value, refused, number, ◌then◌, map_outcome}
-use Rattle.bitstream.specs.Bits.{field_at, put_bits}
+use Rattle.bitstream.specs.Bits.{field_at}
 use Rattle.bitstream.specs.Fields.{lacks}
 use Rattle.bitstream.specs.Windows.{IsWindow}
 use Rattle.bitstream.specs.declared.Refusal.{Refusal}
 use Rattle.bitstream.specs.declared.Refusal.TheVariants.{InvalidData}
 use Rattle.aps.specs.Codec.{Codec}
+use Rattle.aps.specs.Writes.{writes}
 use Rattle.aps.specs.Elements.{flag}
 use Rattle.aps.specs.LmcsSyntax.{LmcsHead, lmcs_codewords, lmcs_chroma, to_lmcs}
 use Rattle.aps.specs.ScalingSyntax.{Entry}
@@ -303,11 +304,6 @@ outcome_admission Admission.Aps = value tt 16
 outcome_admission (Admission.Refused e) = refused (number e)
 
 -- ---- writing
-
-module _ {A : Type 0} where
-  -- the bits of a put into out from bit p on; 2: a is not taken
-  unfoldable pub writes : Codec A → A → List ℕ → ℕ → Outcome (List ℕ)
-  writes c a out p = cond (c.ok a) (value (put_bits out p (c.emit a)) (p + length (c.emit a))) (refused 2)
 
 -- from one stop to the next a was written so, in at most m bits
 pub record Wrote {A : Type 0} (c : Codec A) (a : A) (m : ℕ) (from to : Stop) (out out' : List ℕ) : Type 0 where

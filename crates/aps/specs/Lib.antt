@@ -9,4 +9,5 @@ pub mod Rbsp
 pub mod Unit
 pub mod Reading
 pub mod Writing
+pub mod Writes
 pub mod Inner

@@ -10,7 +10,8 @@ use Rattle.aps.proofs.ElementLaws.{flag-most}
 use Rattle.aps.proofs.StopLaws.{stops-more}
 use Rattle.aps.proofs.WriteSteps.{wrote-bad}
 use Rattle.aps.proofs.SentWrites.{unsent-stops}
-use Rattle.aps.proofs.PutLaws.{coefficient-wide, zero-wrote, coefficient-most, coefficient-wrote}
+use Rattle.aps.proofs.FieldWrites.{coefficient-wide, coefficient-most}
+use Rattle.aps.proofs.PutLaws.{zero-wrote, coefficient-wrote}
 use Rattle.aps.proofs.put.put_coefficient.Goals as goal
 use Rattle.aps.proofs.put.put_coefficient.Goals.{then-sign, else-sign, After-put_u-arg-2-1}
 

@@ -5,7 +5,7 @@ use Prim.Native.Nat.{◌≤◌}
 use lib.IntN.{pos, negsuc}
 use mir.Facts.{to_z-of_z}
 use Rattle.aps.specs.Elements.{se_in}
-use Rattle.aps.proofs.PutLaws.{se8-fits, se8-low, se8-high, se8-bits, se8-wrote}
+use Rattle.aps.proofs.FieldWrites.{se8-fits, se8-low, se8-high, se8-bits, se8-wrote}
 use Rattle.aps.proofs.WriteSteps.{wrote-stays, wrote-not, wrote-field, field-wrote}
 use Rattle.aps.proofs.put.put_se8.Goals as goal
 

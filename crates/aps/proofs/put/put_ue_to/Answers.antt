@@ -4,7 +4,7 @@ use native.Mathlib.Omega.{arith}
 use Prim.Native.Nat.{◌+◌, ◌*◌, ◌≤◌}
 use Rattle.bitstream.specs.Fields.{ue_zeros}
 use Rattle.aps.specs.Elements.{ue_to}
-use Rattle.aps.proofs.PutLaws.{ue_to-fits, ue_to-wide, ue_to-bits, ue_to-wrote}
+use Rattle.aps.proofs.FieldWrites.{ue_to-fits, ue_to-wide, ue_to-bits, ue_to-wrote}
 use Rattle.aps.proofs.WriteSteps.{wrote-stays, wrote-not, wrote-field, field-wrote}
 use Rattle.aps.proofs.put.put_ue_to.Goals as goal
 

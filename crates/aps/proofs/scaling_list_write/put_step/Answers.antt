@@ -7,7 +7,7 @@ use mir.Val.{SFits}
 use mir.Facts.{to_z-of_z}
 use Rattle.bitstream.proofs.Signed.{wide, wide_is}
 use Rattle.aps.specs.Inner.{unsent}
-use Rattle.aps.proofs.PutLaws.{se8-low, se8-high}
+use Rattle.aps.proofs.FieldWrites.{se8-low, se8-high}
 use Rattle.aps.proofs.StopLaws.{stops-more}
 use Rattle.aps.proofs.ScalingSteps.{position}
 use Rattle.aps.proofs.IntegerLaws.{same-i32, difference-fits, difference-is, small-fits}
