@@ -17,6 +17,7 @@ pub mod lmcs_set;
 mod lmcs_write;
 pub mod nal_header;
 mod put;
+mod reader;
 pub mod scaling_list;
 mod scaling_list_data;
 mod scaling_list_write;

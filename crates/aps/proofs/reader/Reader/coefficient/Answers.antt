@@ -1,0 +1,45 @@
+-- `coefficient`: the code and its sign stand in the word, and are dropped from it.
+use mathlib.Core.Path.{◌≡◌, sym, ◌∙◌}
+use native.Mathlib.Omega.{arith}
+use borrow.Author.Tests.{ltb-false}
+use Prim.Native.Nat.{◌+◌, ◌-◌, ◌*◌, ◌/◌, ◌^◌, ◌≤◌}
+use lib.ListN.{length}
+use Rattle.bitstream.specs.Outcome.{value}
+use Rattle.aps.specs.Codec.{ue}
+use Rattle.aps.proofs.CoefficientSteps.{sign-sent, coefficient-held}
+use Rattle.aps.proofs.ReaderLaws.{reads-from}
+use Rattle.aps.proofs.TableSteps.{table-bits, table-found, table-ue}
+use Rattle.aps.proofs.reader.Reader.coefficient.Goals as goal
+use Rattle.aps.proofs.reader.Reader.coefficient.Goals.{After-code_by_table-code}
+
+-- the code has at most 17 bits
+few : (c : After-code_by_table-code) → c.code_by_table-code.result.bits ≤ 17
+few c = table-bits c.requires c.fill.new.self.known c.code_by_table-code.ensures
+
+pub overflow_add-size : goal.overflow_add-size
+overflow_add-size c = omega (arith, few (goal.at.overflow_add-size c).After-code_by_table-code)
+
+pub lacks-requires : goal.lacks-requires
+lacks-requires c = omega (arith, few (goal.at.lacks-requires c).After-code_by_table-code)
+
+pub overflow_sub-sign : goal.overflow_sub-sign
+overflow_sub-sign c = omega (arith, few (goal.at.overflow_sub-sign c).After-code_by_table-code)
+
+pub pass-requires : goal.pass-requires
+pass-requires c =
+    (omega (arith, few (goal.at.pass-requires c).After-code_by_table-code), c.fill.ensures.1, omega arith, ltb-false _ _ (sym c.lacks.ensures ∙ c.if-not-lacks.true))
+
+pub returns-then-not-lacks : goal.returns-then-not-lacks
+returns-then-not-lacks c =
+    let (at, l) = c.fill.ensures in
+    let w = c.fill.new.self in
+    let code = c.code_by_table-code.result in
+    let i : w.at + (code.bits + (1 - w.bits / 2 ^ 63)) ≤ length w.bytes.now * 8 = ltb-false _ _ (sym c.lacks.ensures ∙ c.if-not-lacks.true) in
+    let n = few (goal.at.returns-then-not-lacks c).After-code_by_table-code in
+    let f = table-found c.requires w.known c.code_by_table-code.ensures (omega arith) in
+    let e : ue.read w.bytes.now w.at ≡ value code.value (w.at + code.bits) = table-ue c.requires w.known c.code_by_table-code.ensures (omega arith) (omega (arith, l)) (omega (arith, i)) in
+    let r = coefficient-held w.known e (omega arith) (omega (arith, n, l)) (sign-sent w.known.fits f) c.if-abs-le128.true i in
+    reads-from at (record { field = rw c.pass.ensures.1 r; bytes = c.pass.ensures.0 })
+
+pub returns : goal.returns
+returns c = reads-from c.fill.ensures.0 c.long_coefficient.ensures
