@@ -1,11 +1,11 @@
 // The fields of an input of at most 65,536 bytes, one after another.
 ghost use Rattle.std.specs.Prelude.{◌≡◌, false, cond, ◌+◌, ◌*◌, ◌≤◌, ◌<◌, eqb, ltb, length};
-ghost use Rattle.bitstream.specs.Windows.{IsWindow, ShortCodes};
+ghost use Rattle.bitstream.specs.Windows.{IsWindow};
 
 use crate::fields::se_of;
 use bitstream::Refusal;
-use bitstream::bit_reader::{BitReader, FieldU};
-use bitstream::short_codes::code_by_table;
+use bitstream::bit_reader::BitReader;
+use bitstream::short_codes::CodeTable;
 use bitstream::window::window;
 
 // The `left` highest of `bits` are the bits from bit `at` on, zeros past the end.
@@ -119,31 +119,23 @@ impl<'a> Reader<'a> {
     pub(crate) fn ue(&mut self) -> Result<u32, Refusal>
         ensures { Reads ue (given result self.new.at) self.old self.new }
     {
-        let read = (BitReader { bit_pos: self.at }).ue(self.bytes);
-        if read.lacking {
+        let field = (BitReader { bit_pos: self.at }).ue(self.bytes)?;
+        if field.lacking {
             return Err(Refusal::UnexpectedEnd);
         }
-        match read.field {
-            FieldU::Value(value, next) => {
-                self.at = next.bit_pos;
-                self.left = 0;
-                Ok(value)
-            }
-            FieldU::Refused(why) => Err(why),
-        }
+        self.at = field.next.bit_pos;
+        self.left = 0;
+        Ok(field.value)
     }
 
     // ue(v), looked for in the table first.
-    pub(crate) fn ue_by(&mut self, codes: &[u16; 512]) -> Result<u32, Refusal>
-        requires { ShortCodes codes.now }
+    pub(crate) fn ue_by(&mut self, codes: &CodeTable) -> Result<u32, Refusal>
         ensures { Reads ue (given result self.new.at) self.old self.new }
     {
         self.fill(17);
-        let code = code_by_table(codes, self.bits);
-        let size = code.bits;
-        if size != 0 {
-            if !self.lacks(size) {
-                self.pass(size, 17);
+        if let Some(code) = codes.code(self.bits) {
+            if !self.lacks(code.bits) {
+                self.pass(code.bits, 17);
                 return Ok(code.value);
             }
         }
@@ -151,8 +143,7 @@ impl<'a> Reader<'a> {
     }
 
     // ue(v) in 0..most.
-    pub(crate) fn ue_to(&mut self, codes: &[u16; 512], most: u32) -> Result<u32, Refusal>
-        requires { ShortCodes codes.now }
+    pub(crate) fn ue_to(&mut self, codes: &CodeTable, most: u32) -> Result<u32, Refusal>
         ensures { Reads (ue_to most) (given result self.new.at) self.old self.new }
     {
         let value = self.ue_by(codes)?;
@@ -163,8 +154,7 @@ impl<'a> Reader<'a> {
     }
 
     // se(v) in -128..127.
-    pub(crate) fn se8(&mut self, codes: &[u16; 512]) -> Result<i32, Refusal>
-        requires { ShortCodes codes.now }
+    pub(crate) fn se8(&mut self, codes: &CodeTable) -> Result<i32, Refusal>
         ensures { Reads (se_in (negsuc 127) (pos 127)) (given result self.new.at) self.old self.new }
     {
         let k = self.ue_by(codes)?;
@@ -175,16 +165,14 @@ impl<'a> Reader<'a> {
     }
 
     // A magnitude in 0..128, and its sign if it is not 0: at most 17 bits and the sign, which is sent unless the first bit is 1.
-    pub(crate) fn coefficient(&mut self, codes: &[u16; 512]) -> Result<(u32, bool), Refusal>
-        requires { ShortCodes codes.now }
+    pub(crate) fn coefficient(&mut self, codes: &CodeTable) -> Result<(u32, bool), Refusal>
         ensures { Reads coefficient (given result self.new.at) self.old self.new }
     {
         self.fill(18);
-        let code = code_by_table(codes, self.bits);
-        let size = code.bits;
-        let abs = code.value;
         let sent = 1 - (self.bits >> 63);
-        if size != 0 {
+        if let Some(code) = codes.code(self.bits) {
+            let size = code.bits;
+            let abs = code.value;
             if abs <= 128 {
                 if !self.lacks(size + sent) {
                     let sign = (self.bits >> (63 - size)) % 2 * sent == 1;
@@ -197,8 +185,7 @@ impl<'a> Reader<'a> {
     }
 
     // One that the word does not hold, or that is refused.
-    fn long_coefficient(&mut self, codes: &[u16; 512]) -> Result<(u32, bool), Refusal>
-        requires { ShortCodes codes.now }
+    fn long_coefficient(&mut self, codes: &CodeTable) -> Result<(u32, bool), Refusal>
         ensures { Reads coefficient (given result self.new.at) self.old self.new }
     {
         let abs = self.ue_to(codes, 128)?;
