@@ -1,12 +1,13 @@
 -- Rows of flat arrays.
 use mathlib.Core.Path.{◌≡◌, refl, sym, ap, ◌∙◌}
-use mathlib.Core.List.{List, [], ◌∷◌, ◌++◌}
+use mathlib.Core.List.{List, [], ◌∷◌, ◌++◌, append_assoc}
 use Prim.Native.Nat.{ℕ, zero, suc, ◌+◌, ◌*◌, ◌≤◌, ◌<◌}
 use native.Mathlib.Nat.{add-zero, zero-add, add-suc, suc-add, mul-zero, mul-suc, suc-mul}
 use native.Mathlib.Numerals.{add-one, unary_clauses}
 use native.Mathlib.Omega.{arith}
+use borrow.Rule.Slice.PartMut.{put_mid}
 use lib.ListN.{length, get_or, take, drop, set, length-set, length-drop}
-use lib.Seq.{sets, sets-eq, take-suc, take-set-le, drop-set-add, length-take-le, take_all, take_at, drop_at}
+use lib.Seq.{sets, sets-eq, take-suc, take-set-le, drop-set-add, length-take-le, take_all, take_at, drop_at, drop-drop}
 use Rattle.aps.specs.Elements.{zipped, rows_of}
 use Rattle.aps.proofs.Steps.{zipped-set}
 
@@ -18,6 +19,12 @@ module _ {A : Type 0} where
   -- six stores are one of a row of six
   pub sets-six : (l : List A) (i : ℕ) (a b c d e f : A) → set (set (set (set (set (set l i a) (i + 1) b) (i + 2) c) (i + 3) d) (i + 4) e) (i + 5) f ≡ sets l i (a ∷ b ∷ c ∷ d ∷ e ∷ f ∷ [])
   sets-six l i a b c d e f = simp unary_clauses
+
+  -- a row that was lent is stored where it stood
+  pub part-stored : (l xs : List A) (o k : ℕ) → length xs ≡ k → o + k ≤ length l → put_mid o k l xs ≡ sets l o xs
+  part-stored l xs o k n h =
+      let e : drop k (drop o l) ≡ drop (o + length xs) l = drop-drop k o l ∙ ap (λ (m : ℕ). drop m l) (omega arith) in
+      ap (λ (r : List A). take o l ++ (xs ++ r)) e ∙ sym (append_assoc (take o l) xs (drop (o + length xs) l)) ∙ sym (sets-eq xs l o (omega arith))
 
   -- one entry more of a row
   pub sets_more : (l l' : List A) (o : ℕ) (xs : List A) (j : ℕ) (d : A) → j < length xs → l' ≡ sets l o (take j xs) → set l' (o + j) (get_or xs j d) ≡ sets l o (take (j + 1) xs)
