@@ -7,10 +7,17 @@ use native.Mathlib.Nat.{mul_comm, div-lt_iff_lt-mul, le-div_iff_mul-le}
 use native.Mathlib.Omega.{arith}
 use borrow.Author.Tests.{ltb-true, ltb-false, le-ltb, le-leb, lt-leb}
 use lib.Dec.{leb, ltb}
+use lib.ListN.{replicate}
 use Rattle.aps.specs.Codec.{Codec, u, judged, when, each}
 use Rattle.aps.specs.Elements.{no_number, no_signed, apart}
+use Rattle.bitstream.specs.Outcome.{Outcome, map_outcome}
 use Rattle.aps.specs.AlfSyntax.{ceil_log2, coefficient, luma_coefficients, luma_clips}
+use Rattle.aps.specs.AlfSyntax.{Luma, luma_syntax, luma, to_luma, no_luma}
+use Rattle.aps.specs.Reads.{Reads}
+use Rattle.aps.specs.declared.reader.Reader.{Reader}
+use Rattle.aps.specs.declared.alf.VvcAlfLuma.{VvcAlfLuma}
 use Rattle.aps.proofs.EachLaws.{each_same}
+use Rattle.aps.proofs.ReaderLaws.{reads-via, reads-sent}
 
 -- an entry of a flat array is in a row that is sent, or below the count of entries sent
 pub row-test : (w i n : ℕ) → 0 < w → ltb i (w * (n + 1)) ≡ leb (i / w) n
@@ -46,3 +53,20 @@ module _ (n : ℕ) where
 -- an index is sent where there is more than one filter
 abbrev pub index : ℕ → Codec ℕ
 index count-1 = when (ltb 0 count-1) no_number (judged (λ x. leb x count-1) (u (ceil_log2 (count-1 + 1))))
+
+-- luma filters before any is read
+pub blank-luma : {d : VvcAlfLuma} → d ≡ to_luma no_luma.default
+    → (d.alf_luma_coeff_delta_idx ≡ replicate 25 0) × (d.coeff_abs ≡ replicate 300 0) × (d.coeff_sign ≡ replicate 300 false) × (d.clip_idx ≡ replicate 300 0)
+unfolding to_luma
+blank-luma e = (
+  ap (λ (d : VvcAlfLuma). d.alf_luma_coeff_delta_idx) e,
+  ap (λ (d : VvcAlfLuma). d.coeff_abs) e,
+  ap (λ (d : VvcAlfLuma). d.coeff_sign) e,
+  ap (λ (d : VvcAlfLuma). d.clip_idx) e,
+)
+
+-- a part that is signalled
+module _ {b : Bool} {w0 w1 : Reader} (e : b ≡ true) where
+  pub luma-sent : {o : Outcome Luma} → Reads luma_syntax o w0 w1 → Reads (luma b) (map_outcome to_luma o) w0 w1
+  unfolding luma
+  luma-sent r = reads-via _ _ _ (reads-sent _ no_luma e r)

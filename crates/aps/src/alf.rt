@@ -133,7 +133,8 @@ fn read_alf_filters(reader: &mut Reader, d: &mut VvcAlfData) -> Result<(), Refus
     read_luma(reader, &codes, luma, &mut d.luma)?;
     read_chroma(reader, &codes, chroma, &mut d.chroma)?;
     read_cc(reader, &codes, cb, &mut d.cc_cb)?;
-    read_cc(reader, &codes, cr, &mut d.cc_cr)
+    read_cc(reader, &codes, cr, &mut d.cc_cr)?;
+    Ok(())
 }
 
 // alf_data().
@@ -149,5 +150,6 @@ pub(crate) fn parse_alf_data(
     d.alf_chroma_filter_signal_flag = reader.flag_if(chroma)?;
     d.alf_cc_cb_filter_signal_flag = reader.flag_if(chroma)?;
     d.alf_cc_cr_filter_signal_flag = reader.flag_if(chroma)?;
-    read_alf_filters(reader, d)
+    read_alf_filters(reader, d)?;
+    Ok(())
 }

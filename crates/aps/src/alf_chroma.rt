@@ -24,7 +24,8 @@ fn read_alternative(
     ensures { Reads (alternative clip 0 0) (filled result (zipped abs.new sign.new, clips.new) reader.new.at) reader.old reader.new }
 {
     read_coefficients(reader, codes, 6, abs, sign)?;
-    read_clips(reader, clips_sent(clip, 1), clips)
+    read_clips(reader, clips_sent(clip, 1), clips)?;
+    Ok(())
 }
 
 // The alternatives, one after another: each is a row of the arrays.
@@ -80,7 +81,8 @@ pub(crate) fn read_chroma(
         &mut filters.coeff_abs,
         &mut filters.coeff_sign,
         &mut filters.clip_idx,
-    )
+    )?;
+    Ok(())
 }
 
 // The coefficients of Cb or Cr.
@@ -121,5 +123,6 @@ pub(crate) fn read_cc(
         count_minus1,
         &mut filters.mapped_coeff_abs,
         &mut filters.coeff_sign,
-    )
+    )?;
+    Ok(())
 }

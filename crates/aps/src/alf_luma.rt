@@ -58,9 +58,7 @@ pub(crate) fn read_luma(
         &mut filters.coeff_abs,
         &mut filters.coeff_sign,
     )?;
-    read_clips(
-        reader,
-        clips_sent(clip, 2 * (count_minus1 as usize + 1)),
-        &mut filters.clip_idx,
-    )
+    let rows = clips_sent(clip, 2 * (count_minus1 as usize + 1));
+    read_clips(reader, rows, &mut filters.clip_idx)?;
+    Ok(())
 }

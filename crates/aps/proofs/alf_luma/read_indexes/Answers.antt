@@ -41,4 +41,3 @@ loop-index-preserved c =
     let n = c.args.count_minus1 in
     let r = rw c.ceil_log2-bits.ensures.0 at c.in_ok-x.ensures in
     filling-more (λ i. index n) 25 0 c.loop-index.invariant (omega arith) (reads-sent _ no_number (lt-ltb 0 n (omega arith)) (reads-judged _ (le-leb _ _ c.if-count_minus1-x.false) r))
-
