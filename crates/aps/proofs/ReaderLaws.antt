@@ -1,5 +1,5 @@
 -- Fields one after another, as a reader takes them.
-use mathlib.Core.Path.{◌≡◌, refl, sym, ◌∙◌}
+use mathlib.Core.Path.{◌≡◌, refl, sym, ap, ◌∙◌}
 use mathlib.Core.Bool.{Bool, true, false, cond}
 use mathlib.Core.List.{List}
 use Prim.Native.Nat.{ℕ, ◌+◌, ◌-◌, ◌*◌, ◌%◌, ◌^◌, ◌≤◌, ◌<◌}
@@ -18,11 +18,12 @@ use Rattle.bitstream.specs.Windows.{IsWindow}
 use Rattle.bitstream.specs.declared.Refusal.{Refusal}
 use Rattle.bitstream.proofs.CodeLaws.{value-refused}
 use Rattle.aps.specs.Codec.{Codec, ue, ◌▷◌, via, judged, Inferred, when, each, provided}
-use Rattle.aps.specs.Elements.{apart, ue_to}
+use Rattle.aps.specs.Elements.{apart, firsts, seconds, zipped, ue_to}
+use Rattle.aps.proofs.PairLaws.{zipped-there}
 use Rattle.aps.specs.declared.reader.Reader.{Reader}
 use Rattle.aps.specs.Inner.{ends_at}
 use Rattle.aps.specs.Reads.{given, filled, Reads, Stands}
-use Rattle.aps.proofs.Steps.{judged-true, Reading, reading-start, reading-more, reading-refused, reading-done}
+use Rattle.aps.proofs.Steps.{judged-true, apart-read, Reading, reading-start, reading-more, reading-refused, reading-done}
 use Rattle.aps.proofs.Steps.{Reading2, reading2-start, reading2-from, reading2-more, reading2-refused, reading2-done}
 
 -- a word of which no bit is known
@@ -118,6 +119,14 @@ module _ {A B : Type 0} {c : Codec A} {w0 w1 : Reader} where
     pub reads-▷-first : {n : ℕ} → Reads c (refused n) w0 w1 → Reads (c ▷ k) (refused n) w0 w1
     unfolding ◌▷◌
     reads-▷-first r = record { field = rw (← r.field); bytes = r.bytes }
+
+-- two arrays that were read together, as one of pairs
+pub reads-pairs : {A B : Type 0} (c : Codec (List (A × B))) {o : Outcome (List A × List B)} {w0 w1 : Reader} → Reads (apart c) o w0 w1 → Reads c (map_outcome (λ x. zipped x.0 x.1) o) w0 w1
+reads-pairs {A} {B} c {o} {w0} r = record { field = go o (c.read w0.bytes.now w0.at) (r.field ∙ apart-read c w0.bytes.now w0.at); bytes = r.bytes }
+  where
+    go : (o : Outcome (List A × List B)) (o' : Outcome (List (A × B))) → o ≡ ◌then◌ {B = List A × List B} o' (λ l q. value (firsts l, seconds l) q) → map_outcome (λ x. zipped x.0 x.1) o ≡ o'
+    go o (value l q) e = rw e (ap {B = Outcome (List (A × B))} (λ t. value t q) (zipped-there l))
+    go o (refused n) e = rw e
 
 -- A loop that fills an array, as `Reading` of Steps: the reader stood at w0 before it.
 pub record Filling {A : Type 0} (k : ℕ → Codec A) (N : ℕ) (v : A) (w0 : Reader) (i : ℕ) (a : List A) (w : Reader) : Type 0 where

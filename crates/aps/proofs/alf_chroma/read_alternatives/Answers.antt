@@ -1,0 +1,49 @@
+-- `read_alternatives`: the loop has stored the first alternatives as rows.
+use borrow.Author.Rules.{rules}
+use mathlib.Core.Path.{◌≡◌, sym, ap, ◌∙◌}
+use mathlib.Core.Bool.{Bool, false}
+use mathlib.Core.List.{List}
+use Prim.Native.Nat.{ℕ, ◌+◌, ◌-◌, ◌*◌, ◌≤◌}
+use native.Mathlib.Omega.{arith}
+use lib.ListN.{length, replicate}
+use Rattle.aps.proofs.AlternativeSteps.{rows-from, rows-more, rows-refused, rows-done}
+use Rattle.aps.proofs.ReaderLaws.{fills-exit}
+use Rattle.aps.proofs.RowLaws.{part-stored, part-blank}
+use Rattle.aps.proofs.alf_chroma.read_alternatives.Goals as goal
+
+pub loop-row-init : goal.loop-row-init
+loop-row-init c = rows-from c.args.clip c.args.count_minus1 c.requires.1 c.requires.2 c.requires.3
+
+pub read_alternative-requires : goal.read_alternative-requires
+read_alternative-requires c =
+    let o = c.loop-row in
+    let R = o.invariant in
+    let k : 6 * o.row + 6 - 6 * o.row ≡ 6 = omega arith in
+    rw k (
+      part-blank o.abs (6 * o.row) 6 _ 0 R.rest-abs (omega arith),
+      part-blank o.sign (6 * o.row) 6 _ false R.rest-sign (omega arith),
+      part-blank o.clips (6 * o.row) 6 _ 0 R.rest-clips (omega arith),
+      c.requires.4,
+    )
+
+pub returns-in_err-read_alternative : goal.returns-in_err-read_alternative
+returns-in_err-read_alternative c =
+    fills-exit _ _ _ _ c.from_residual.ensures.1 (rows-refused c.args.clip c.args.count_minus1 c.loop-row.invariant (omega arith) (omega arith) c.in_err-read_alternative.ensures)
+
+pub loop-row-preserved : goal.loop-row-preserved
+loop-row-preserved c =
+    let o = c.loop-row in
+    let R = o.invariant in
+    let k = c.read_alternative in
+    let n : length k.new.abs ≡ 6 * o.row + 6 - 6 * o.row = search rules in
+    let m : length k.new.sign ≡ 6 * o.row + 6 - 6 * o.row = search rules in
+    let l : length k.new.clips ≡ 6 * o.row + 6 - 6 * o.row = search rules in
+    rw (
+      part-stored o.abs k.new.abs (6 * o.row) _ n (omega (arith, R.size-abs)),
+      part-stored o.sign k.new.sign (6 * o.row) _ m (omega (arith, R.size-sign)),
+      part-stored o.clips k.new.clips (6 * o.row) _ l (omega (arith, R.size-clips)),
+    )
+    (rows-more c.args.clip c.args.count_minus1 R k.new.abs k.new.sign k.new.clips (omega arith) (omega arith) (omega arith) (omega arith) (omega arith) c.in_ok-read_alternative.ensures)
+
+pub returns : goal.returns
+returns c = rows-done c.args.clip c.args.count_minus1 c.loop-row.invariant (omega arith) (omega arith)
