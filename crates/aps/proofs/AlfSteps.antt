@@ -1,7 +1,6 @@
 -- The steps of alf_data( ), as its readers take them.
 use mathlib.Core.Path.{◌≡◌, refl, sym, ap}
-use mathlib.Core.Bool.{Bool, true, false, cond, ◌&&◌}
-use mathlib.Core.List.{List}
+use mathlib.Core.Bool.{Bool, true, false, cond, ◌&&◌, ◌||◌}
 use Prim.Native.Nat.{ℕ, ◌+◌, ◌*◌, ◌/◌, ◌≤◌, ◌<◌}
 use native.Mathlib.Nat.{mul_comm, div-lt_iff_lt-mul, le-div_iff_mul-le}
 use native.Mathlib.Omega.{arith}
@@ -10,14 +9,21 @@ use lib.Dec.{leb, ltb}
 use lib.ListN.{replicate}
 use Rattle.aps.specs.Codec.{Codec, u, judged, when, each}
 use Rattle.aps.specs.Elements.{no_number, no_signed, apart}
-use Rattle.bitstream.specs.Outcome.{Outcome, map_outcome}
+use Rattle.bitstream.specs.Outcome.{Outcome, value, map_outcome}
 use Rattle.aps.specs.AlfSyntax.{ceil_log2, coefficient, luma_coefficients, luma_clips}
 use Rattle.aps.specs.AlfSyntax.{Luma, luma_syntax, luma, to_luma, no_luma}
+use Rattle.aps.specs.AlfSyntax.{Chroma, chroma_syntax, chroma, to_chroma, no_chroma}
+use Rattle.aps.specs.AlfSyntax.{Cc, cc_syntax, cc, to_cc, no_cc, to_alf}
 use Rattle.aps.specs.Reads.{Reads}
 use Rattle.aps.specs.declared.reader.Reader.{Reader}
 use Rattle.aps.specs.declared.alf.VvcAlfLuma.{VvcAlfLuma}
+use Rattle.aps.specs.declared.alf.VvcAlfChroma.{VvcAlfChroma}
+use Rattle.aps.specs.declared.alf.VvcAlfCcFilters.{VvcAlfCcFilters}
+use Rattle.aps.specs.declared.alf.VvcAlfData.{VvcAlfData}
+use Rattle.aps.specs.ApsSyntax.{zero_alf}
+use Rattle.aps.proofs.CodecLaws.{never_true}
 use Rattle.aps.proofs.EachLaws.{each_same}
-use Rattle.aps.proofs.ReaderLaws.{reads-via, reads-sent}
+use Rattle.aps.proofs.ReaderLaws.{stays, reads-via, reads-sent, reads-unsent}
 
 -- an entry of a flat array is in a row that is sent, or below the count of entries sent
 pub row-test : (w i n : ℕ) → 0 < w → ltb i (w * (n + 1)) ≡ leb (i / w) n
@@ -54,7 +60,7 @@ module _ (n : ℕ) where
 abbrev pub index : ℕ → Codec ℕ
 index count-1 = when (ltb 0 count-1) no_number (judged (λ x. leb x count-1) (u (ceil_log2 (count-1 + 1))))
 
--- luma filters before any is read
+-- filters before any is read
 pub blank-luma : {d : VvcAlfLuma} → d ≡ to_luma no_luma.default
     → (d.alf_luma_coeff_delta_idx ≡ replicate 25 0) × (d.coeff_abs ≡ replicate 300 0) × (d.coeff_sign ≡ replicate 300 false) × (d.clip_idx ≡ replicate 300 0)
 unfolding to_luma
@@ -65,8 +71,57 @@ blank-luma e = (
   ap (λ (d : VvcAlfLuma). d.clip_idx) e,
 )
 
+pub blank-chroma : {d : VvcAlfChroma} → d ≡ to_chroma no_chroma.default → (d.coeff_abs ≡ replicate 48 0) × (d.coeff_sign ≡ replicate 48 false) × (d.clip_idx ≡ replicate 48 0)
+unfolding to_chroma
+blank-chroma e = (ap (λ (d : VvcAlfChroma). d.coeff_abs) e, ap (λ (d : VvcAlfChroma). d.coeff_sign) e, ap (λ (d : VvcAlfChroma). d.clip_idx) e)
+
+pub blank-cc : {d : VvcAlfCcFilters} → d ≡ to_cc no_cc.default → (d.mapped_coeff_abs ≡ replicate 28 0) × (d.coeff_sign ≡ replicate 28 false)
+unfolding to_cc
+blank-cc e = (ap (λ (d : VvcAlfCcFilters). d.mapped_coeff_abs) e, ap (λ (d : VvcAlfCcFilters). d.coeff_sign) e)
+
 -- a part that is signalled
 module _ {b : Bool} {w0 w1 : Reader} (e : b ≡ true) where
   pub luma-sent : {o : Outcome Luma} → Reads luma_syntax o w0 w1 → Reads (luma b) (map_outcome to_luma o) w0 w1
   unfolding luma
   luma-sent r = reads-via _ _ _ (reads-sent _ no_luma e r)
+
+  pub chroma-sent : {o : Outcome Chroma} → Reads chroma_syntax o w0 w1 → Reads (chroma b) (map_outcome to_chroma o) w0 w1
+  unfolding chroma
+  chroma-sent r = reads-via _ _ _ (reads-sent _ no_chroma e r)
+
+  pub cc-sent : {o : Outcome Cc} → Reads cc_syntax o w0 w1 → Reads (cc b) (map_outcome to_cc o) w0 w1
+  unfolding cc
+  cc-sent r = reads-via _ _ _ (reads-sent _ no_cc e r)
+
+-- and one that is not
+module _ {b : Bool} {w : Reader} (e : b ≡ false) where
+  pub luma-unsent : {d : VvcAlfLuma} → d ≡ to_luma no_luma.default → Reads (luma b) (value d w.at) w w
+  unfolding luma
+  luma-unsent f = rw f (reads-via _ _ _ (reads-unsent _ luma_syntax no_luma e stays))
+
+  pub chroma-unsent : {d : VvcAlfChroma} → d ≡ to_chroma no_chroma.default → Reads (chroma b) (value d w.at) w w
+  unfolding chroma
+  chroma-unsent f = rw f (reads-via _ _ _ (reads-unsent _ chroma_syntax no_chroma e stays))
+
+  pub cc-unsent : {d : VvcAlfCcFilters} → d ≡ to_cc no_cc.default → Reads (cc b) (value d w.at) w w
+  unfolding cc
+  cc-unsent f = rw f (reads-via _ _ _ (reads-unsent _ cc_syntax no_cc e stays))
+
+pub blank-alf : {d : VvcAlfData} → d ≡ zero_alf → (d.luma ≡ to_luma no_luma.default) × (d.chroma ≡ to_chroma no_chroma.default) × (d.cc_cb ≡ to_cc no_cc.default) × (d.cc_cr ≡ to_cc no_cc.default)
+unfolding zero_alf
+blank-alf e = (ap (λ (d : VvcAlfData). d.luma) e, ap (λ (d : VvcAlfData). d.chroma) e, ap (λ (d : VvcAlfData). d.cc_cb) e, ap (λ (d : VvcAlfData). d.cc_cr) e)
+
+-- no flag is set
+pub none-of-four : (a b c d : Bool) → (a || (b || (c || d))) ≡ false → (a ≡ false) × (b ≡ false) × (c ≡ false) × (d ≡ false)
+none-of-four true b c d e = never_true (sym e)
+none-of-four false true c d e = never_true (sym e)
+none-of-four false false true d e = never_true (sym e)
+none-of-four false false false true e = never_true (sym e)
+none-of-four false false false false e = (refl, refl, refl, refl)
+
+-- a record of these flags
+pub alf-parts : (d : VvcAlfData) {luma chroma cb cr : Bool}
+    → (d.alf_luma_filter_signal_flag ≡ luma) × (d.alf_chroma_filter_signal_flag ≡ chroma) × (d.alf_cc_cb_filter_signal_flag ≡ cb) × (d.alf_cc_cr_filter_signal_flag ≡ cr)
+    → d ≡ to_alf (luma, (chroma, (cb, (cr, (d.luma, (d.chroma, (d.cc_cb, d.cc_cr)))))))
+unfolding to_alf
+alf-parts d (l, h, b, r) = rw (← l, ← h, ← b, ← r)

@@ -8,9 +8,9 @@ use borrow.Author.Tests.{lt-ltb, le-ltb, le-leb, lt-leb}
 use lib.Dec.{leb, ltb}
 use lib.ListN.{length, drop, replicate, set}
 use lib.Seq.{sets, length-sets}
-use Rattle.bitstream.specs.Outcome.{Outcome, value, refused, map_outcome, ◌then◌}
-use Rattle.aps.specs.Codec.{Codec, u, ◌▷◌, when, each_from, each}
-use Rattle.aps.specs.Elements.{no_number, no_signed, firsts, seconds, zipped, apart, joined, rows_of, flat}
+use Rattle.bitstream.specs.Outcome.{value, refused}
+use Rattle.aps.specs.Codec.{u, ◌▷◌, when, each_from, each}
+use Rattle.aps.specs.Elements.{no_number, no_signed, firsts, seconds, zipped, joined, rows_of, flat}
 use Rattle.aps.specs.AlfSyntax.{coefficient, alternative, alternatives}
 use Rattle.aps.specs.Reads.{Reads}
 use Rattle.aps.specs.declared.reader.Reader.{Reader}

@@ -17,8 +17,9 @@ use Rattle.bitstream.specs.Fields.{read_trailing, trailing_value, trailing_width
 use Rattle.bitstream.specs.Windows.{IsWindow}
 use Rattle.bitstream.specs.declared.Refusal.{Refusal}
 use Rattle.bitstream.proofs.CodeLaws.{value-refused}
-use Rattle.aps.specs.Codec.{Codec, ue, ◌▷◌, via, judged, Inferred, when, each, provided}
-use Rattle.aps.specs.Elements.{apart, firsts, seconds, zipped, ue_to}
+use Rattle.aps.specs.Codec.{Codec, u, ue, ◌▷◌, via, judged, Inferred, when, each, provided}
+use Rattle.aps.specs.Elements.{apart, firsts, seconds, zipped, ue_to, signed}
+use Rattle.aps.proofs.FieldSteps.{signed-u-lt}
 use Rattle.aps.proofs.PairLaws.{zipped-there}
 use Rattle.aps.specs.declared.reader.Reader.{Reader}
 use Rattle.aps.specs.Inner.{ends_at}
@@ -206,3 +207,7 @@ trailing-inside s p {q} e = go (ltb p (length s * 8)) refl e
 pub reads-most : (most : ℕ) {v q : ℕ} {w0 w1 : Reader} → Reads (ue_to most) (value v q) w0 w1 → v ≤ most
 unfolding ue_to
 reads-most most {w0 = w0} r = leb-true _ most (judged-true (λ v. leb v most) ue w0.bytes.now w0.at (sym r.field))
+
+-- a magnitude that was read is of n bits
+pub reads-signed-lt : (n : ℕ) {m : ℕ} {b : Bool} {q : ℕ} {w0 w1 : Reader} → Reads (signed (u n)) (value (m, b) q) w0 w1 → m < 2 ^ n
+reads-signed-lt n {w0 = w0} r = signed-u-lt n w0.bytes.now w0.at (sym r.field)

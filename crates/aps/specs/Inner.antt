@@ -1,7 +1,7 @@
 -- For the proofs' sake: what the inner functions promise each other on the way. No public contract says anything of this file.
 use Rattle.std.specs.Prelude.{◌≡◌, Bool, true, false, cond, not, List, [], ◌∷◌, ℕ, ◌+◌, ◌*◌, ◌/◌, ◌%◌, ◌^◌, ◌≤◌, eqb, ltb, ℤ, length, take}
 use Rattle.std.proofs.lemmas.List.Edits.{sets}
-use Rattle.bitstream.specs.Outcome.{Outcome, value, refused, number, ◌then◌, map_outcome}
+use Rattle.bitstream.specs.Outcome.{Outcome, value, refused, number, ◌then◌}
 use Rattle.bitstream.specs.Bits.{field_at, put_bits}
 use Rattle.bitstream.specs.Fields.{lacks, read_trailing}
 use Rattle.bitstream.specs.Windows.{IsWindow}
@@ -21,7 +21,11 @@ use Rattle.aps.specs.declared.fields.SignedField.TheVariants as Signed
 use Rattle.aps.specs.declared.windows.Window.{Window}
 use Rattle.aps.specs.declared.scaling_list_data.HeldSum.{HeldSum}
 use Rattle.aps.specs.declared.scaling_list_data.HeldSum.TheVariants as Sum
+use Rattle.aps.specs.declared.alf.VvcAlfLuma.{VvcAlfLuma}
+use Rattle.aps.specs.declared.alf.VvcAlfChroma.{VvcAlfChroma}
+use Rattle.aps.specs.declared.alf.VvcAlfCcFilters.{VvcAlfCcFilters}
 use Rattle.aps.specs.declared.alf.VvcAlfData.{VvcAlfData}
+use Rattle.aps.specs.AlfSyntax.{to_luma, to_cc}
 use Rattle.aps.specs.declared.lmcs.VvcLmcsData.{VvcLmcsData}
 use Rattle.aps.specs.declared.lmcs.LmcsRead.{LmcsRead}
 use Rattle.aps.specs.declared.scaling_list.VvcScalingListData.{VvcScalingListData}
@@ -96,6 +100,19 @@ pub record Headed (s : List ℕ) (kind id : ℕ) (chroma : Bool) : Type 0 where
   pub id-is : field_at s 3 5 ≡ id
   pub chroma-is : not (eqb (field_at s 8 1) 0) ≡ chroma
 
+-- a set of each kind before its extension flag is read
+abbrev pub set_of : ApsKind → ℕ → Bool → VvcAlfData → VvcLmcsData → VvcScalingListData → VvcAps
+set_of kind id chroma a l s =
+    record {
+      kind = kind;
+      aps_adaptation_parameter_set_id = id;
+      aps_chroma_present_flag = chroma;
+      aps_extension_flag = false;
+      alf = a;
+      lmcs = l;
+      scaling = s;
+    }
+
 -- the set with the extension flag read
 unfoldable pub with_extension : VvcAps → Bool → VvcAps
 with_extension a x =
@@ -113,24 +130,21 @@ with_extension a x =
 unfoldable pub ended : List ℕ → ℕ → Outcome Bool
 ended s q = flag.read s q then λ x r. cond x (value x r) (read_trailing s r then λ e t. value x t)
 
--- an ALF set
-unfoldable pub alf_with : ℕ → Bool → VvcAlfData → Bool → VvcAps
-alf_with id chroma d x =
-    record {
-      kind = ApsKind.Alf;
-      aps_adaptation_parameter_set_id = id;
-      aps_chroma_present_flag = chroma;
-      aps_extension_flag = x;
-      alf = d;
-      lmcs = zero_lmcs;
-      scaling = zero_scaling;
-    }
-
 -- the extension flag and what closes the RBSP
 unfoldable pub finished : List ℕ → VvcAps → ℕ → Outcome VvcAps
 finished s a q = flag.read s q then λ x r. closed s (with_extension a x) r
 
--- the record put together from the arrays that reading fills
+-- the records put together from arrays
+abbrev pub luma_of : Bool → ℕ → List ℕ → List ℕ → List Bool → List ℕ → VvcAlfLuma
+luma_of clip count-1 idx abs sign clips = to_luma (clip, (count-1, (idx, ((abs, sign), clips))))
+
+abbrev pub chroma_of : Bool → ℕ → List ℕ → List Bool → List ℕ → VvcAlfChroma
+chroma_of clip count-1 abs sign clips =
+    record { alf_chroma_clip_flag = clip; alf_chroma_num_alt_filters_minus1 = count-1; coeff_abs = abs; coeff_sign = sign; clip_idx = clips }
+
+abbrev pub cc_of : ℕ → List ℕ → List Bool → VvcAlfCcFilters
+cc_of count-1 abs sign = to_cc (count-1, (abs, sign))
+
 abbrev pub scaling_of : List Bool → List Bool → List ℕ → List ℤ → List ℤ → VvcScalingListData
 scaling_of copy pred delta dc list =
     record { copy_mode_flag = copy; pred_mode_flag = pred; pred_id_delta = delta; dc_coef = dc; scaling_list = list }

@@ -1,5 +1,5 @@
 // The chroma and cross-component filters of alf_data().
-ghost use Rattle.std.specs.Prelude.{◌≡◌, true, false, ◌≤◌, replicate};
+ghost use Rattle.std.specs.Prelude.{◌≡◌, true, false, ◌≤◌, length, replicate};
 ghost use Rattle.bitstream.specs.Windows.{ShortCodes};
 ghost use Rattle.aps.specs.Elements.{zipped};
 ghost use Rattle.aps.specs.AlfSyntax.{chroma, no_chroma, to_chroma, alternative, alternatives, chroma_arrays};
@@ -40,7 +40,8 @@ fn read_alternatives(
 ) -> Result<(), Refusal>
     requires { (count_minus1 ≤ 7) × (abs.old ≡ replicate 48 0) × (sign.old ≡ replicate 48 false) × (clips.old ≡ replicate 48 0)
         × ShortCodes codes.now }
-    ensures { Reads (alternatives clip count_minus1) (filled result (zipped abs.new sign.new, clips.new) reader.new.at) reader.old reader.new }
+    ensures field { Reads (alternatives clip count_minus1) (filled result (zipped abs.new sign.new, clips.new) reader.new.at) reader.old reader.new }
+    ensures sizes { (length abs.new ≡ 48) × (length sign.new ≡ 48) }
 {
     for row in 0..count_minus1 as usize + 1 {
         let i = 6 * row;

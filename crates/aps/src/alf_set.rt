@@ -1,7 +1,7 @@
 // A set of loop filters.
 ghost use Rattle.std.specs.Prelude.{◌≡◌, ◌≤◌, length};
 ghost use Rattle.bitstream.specs.Outcome.{map_outcome};
-ghost use Rattle.aps.specs.Inner.{Assembles, Headed, Heads, ReadsAlf, alf_with};
+ghost use Rattle.aps.specs.Inner.{Assembles, Headed, Heads, ReadsAlf, set_of, with_extension};
 ghost use Rattle.aps.specs.Rbsp.{read_rbsp, parse_aps_rbsp};
 ghost use Rattle.aps.specs.ApsSyntax.{zero_alf, zero_lmcs, zero_scaling};
 ghost use Rattle.aps.specs.Reading.{outcome_read, set_given, head_of};
@@ -23,7 +23,7 @@ fn read_alf_set(
     d: &mut VvcAlfData,
 ) -> Result<bool, Refusal>
     requires { (reader.old.at ≡ 9) × Headed reader.old.bytes.now 0 id chroma × (d.old ≡ zero_alf) }
-    ensures { map_outcome (alf_with id chroma d.new) (given result reader.new.at) ≡ read_rbsp reader.old.bytes.now }
+    ensures { map_outcome (with_extension (set_of ApsKind.Alf id chroma d.new zero_lmcs zero_scaling)) (given result reader.new.at) ≡ read_rbsp reader.old.bytes.now }
 {
     parse_alf_data(reader, chroma, d)?;
     if Alf::MAX_ID < id {

@@ -1,11 +1,10 @@
 -- `read_alternatives`: the loop has stored the first alternatives as rows.
 use borrow.Author.Rules.{rules}
-use mathlib.Core.Path.{◌≡◌, sym, ap, ◌∙◌}
-use mathlib.Core.Bool.{Bool, false}
-use mathlib.Core.List.{List}
-use Prim.Native.Nat.{ℕ, ◌+◌, ◌-◌, ◌*◌, ◌≤◌}
+use mathlib.Core.Path.{◌≡◌}
+use mathlib.Core.Bool.{false}
+use Prim.Native.Nat.{◌+◌, ◌-◌, ◌*◌}
 use native.Mathlib.Omega.{arith}
-use lib.ListN.{length, replicate}
+use lib.ListN.{length}
 use Rattle.aps.proofs.AlternativeSteps.{rows-from, rows-more, rows-refused, rows-done}
 use Rattle.aps.proofs.ReaderLaws.{fills-exit}
 use Rattle.aps.proofs.RowLaws.{part-stored, part-blank}
@@ -26,8 +25,8 @@ read_alternative-requires c =
       c.requires.4,
     )
 
-pub returns-in_err-read_alternative : goal.returns-in_err-read_alternative
-returns-in_err-read_alternative c =
+pub returns-in_err-read_alternative-clause-field : goal.returns-in_err-read_alternative-clause-field
+returns-in_err-read_alternative-clause-field c =
     fills-exit _ _ _ _ c.from_residual.ensures.1 (rows-refused c.args.clip c.args.count_minus1 c.loop-row.invariant (omega arith) (omega arith) c.in_err-read_alternative.ensures)
 
 pub loop-row-preserved : goal.loop-row-preserved
@@ -45,5 +44,5 @@ loop-row-preserved c =
     )
     (rows-more c.args.clip c.args.count_minus1 R k.new.abs k.new.sign k.new.clips (omega arith) (omega arith) (omega arith) (omega arith) (omega arith) c.in_ok-read_alternative.ensures)
 
-pub returns : goal.returns
-returns c = rows-done c.args.clip c.args.count_minus1 c.loop-row.invariant (omega arith) (omega arith)
+pub returns-clause-field : goal.returns-clause-field
+returns-clause-field c = rows-done c.args.clip c.args.count_minus1 c.loop-row.invariant (omega arith) (omega arith)

@@ -1,5 +1,4 @@
 -- `read_clips`: the loop has read the first rows.
-use mathlib.Core.Path.{◌≡◌}
 use Prim.Native.Nat.{◌*◌}
 use lib.ListN.{length}
 use Rattle.aps.proofs.ClipSteps.{clip_of}

@@ -5,7 +5,7 @@ use Rattle.aps.specs.Elements.{no_number}
 use Rattle.aps.proofs.AlfLaws.{ceil_log2-le, ceil_log2-some}
 use Rattle.aps.proofs.Steps.{when-read}
 use Rattle.aps.proofs.AlfSteps.{index}
-use Rattle.aps.proofs.ReaderLaws.{reads-exit, fills-exit, reads-sent, reads-judged, reads-not-judged, reads-judged-first}
+use Rattle.aps.proofs.ReaderLaws.{fills-exit, reads-sent, reads-judged, reads-not-judged, reads-judged-first}
 use Rattle.aps.proofs.ReaderLaws.{filling-start, filling-more, filling-refused, filling-done}
 use Rattle.aps.proofs.alf_luma.read_indexes.Goals as goal
 

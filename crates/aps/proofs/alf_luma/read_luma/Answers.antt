@@ -4,14 +4,13 @@ use mathlib.Core.List.{List}
 use Prim.Native.Nat.{ℕ}
 use native.Mathlib.Omega.{arith}
 use lib.ListN.{length}
-use Rattle.aps.specs.AlfSyntax.{luma, luma_syntax, to_luma, no_luma}
-use Rattle.aps.proofs.AlfSteps.{blank-luma, luma-sent, luma-coefficients, luma-clips}
-use Rattle.aps.proofs.ReaderLaws.{stays, reads-▷, reads-▷-first, reads-most, fills-exit, reads-via, reads-unsent}
+use Rattle.aps.specs.AlfSyntax.{luma_syntax, to_luma}
+use Rattle.aps.proofs.AlfSteps.{blank-luma, luma-sent, luma-unsent, luma-coefficients, luma-clips}
+use Rattle.aps.proofs.ReaderLaws.{reads-▷, reads-▷-first, reads-most, fills-exit}
 use Rattle.aps.proofs.alf_luma.read_luma.Goals as goal
 
 pub returns-then-not-signal : goal.returns-then-not-signal
-unfolding luma
-returns-then-not-signal c = rw c.requires.0 (reads-via _ _ _ (reads-unsent _ luma_syntax no_luma c.if-not-signal.true stays))
+returns-then-not-signal c = luma-unsent c.if-not-signal.true c.requires.0
 
 pub returns-in_err-clip : goal.returns-in_err-clip
 unfolding luma_syntax

@@ -1,5 +1,4 @@
 -- `close_rbsp`: the extension flag, and where the RBSP ends by it.
-use mathlib.Core.Path.{sym, ◌∙◌}
 use Rattle.aps.specs.Inner.{ended}
 use Rattle.aps.proofs.ReaderLaws.{given-exit}
 use Rattle.aps.proofs.ending.close_rbsp.Goals as goal

@@ -1,0 +1,16 @@
+-- `alf_head`: what an answer says of the set but for its arrays.
+use mathlib.Core.Path.{sym}
+use Rattle.aps.specs.ApsSyntax.{zero_lmcs, zero_scaling}
+use Rattle.aps.proofs.Answers.{heads, lmcs-is, scaling-is}
+use Rattle.aps.proofs.alf_set.alf_head.Goals as goal
+
+pub returns : goal.returns
+returns c =
+    let k = c.alf_answer in
+    let a = k.result in
+    let d = k.new.d in
+    let s = c.args.bytes.now in
+    record {
+      answer = heads a.outcome a.head d zero_lmcs zero_scaling s k.ensures;
+      others = (sym (lmcs-is a.outcome a.head d zero_lmcs zero_scaling s k.ensures), sym (scaling-is a.outcome a.head d zero_lmcs zero_scaling s k.ensures));
+    }
