@@ -7,7 +7,7 @@ ghost use Rattle.aps.specs.Reading.{outcome_read, set_given, head_of};
 
 use crate::alf_set::alf_head;
 use crate::aps::{
-    ApsHead, ApsKind, ApsOutcome, HeadReading, Lmcs, Opening, empty_head, open_rbsp, refuse_head,
+    ApsHead, ApsKind, ApsOutcome, HeadReading, Lmcs, empty_head, open_rbsp, refuse_head,
 };
 use crate::ending::read_ending;
 use crate::fields::Stop;
@@ -143,10 +143,15 @@ pub fn parse_lmcs_rbsp(bytes: &[u8]) -> LmcsReading
     ensures head { result.head ≡ head_of (set_given (parse_aps_rbsp bytes.now)) }
     ensures lmcs { result.lmcs ≡ (set_given (parse_aps_rbsp bytes.now)).lmcs }
 {
-    match open_rbsp(bytes) {
-        Opening::Alf { id, chroma } => no_lmcs_in(alf_head(bytes, id, chroma)),
-        Opening::Lmcs { id, chroma } => lmcs_alone(bytes, id, chroma),
-        Opening::Scaling { id, chroma } => no_lmcs_in(scaling_head(bytes, id, chroma)),
-        Opening::Refused(why) => no_lmcs_in(refuse_head(why)),
+    let (reader, head) = match open_rbsp(bytes) {
+        Ok(opened) => opened,
+        Err(why) => return no_lmcs_in(refuse_head(why)),
+    };
+    let id = head.aps_adaptation_parameter_set_id;
+    let chroma = head.aps_chroma_present_flag;
+    match head.kind {
+        ApsKind::Alf => no_lmcs_in(alf_head(reader, head)),
+        ApsKind::Lmcs => lmcs_alone(bytes, id, chroma),
+        ApsKind::Scaling => no_lmcs_in(scaling_head(bytes, id, chroma)),
     }
 }

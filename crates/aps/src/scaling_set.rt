@@ -6,9 +6,7 @@ ghost use Rattle.aps.specs.ApsSyntax.{empty_set, zero_alf, zero_lmcs, zero_scali
 ghost use Rattle.aps.specs.Reading.{outcome_read, set_given, head_of};
 
 use crate::alf_set::alf_head;
-use crate::aps::{
-    ApsHead, ApsKind, ApsOutcome, HeadReading, Opening, Scaling, open_rbsp, refuse_head,
-};
+use crate::aps::{ApsHead, ApsKind, ApsOutcome, HeadReading, Scaling, open_rbsp, refuse_head};
 use crate::ending::read_ending;
 use crate::fields::Stop;
 use crate::lmcs_set::lmcs_head;
@@ -151,10 +149,15 @@ pub fn parse_scaling_rbsp(bytes: &[u8]) -> ScalingReading
     ensures head { result.head ≡ head_of (set_given (parse_aps_rbsp bytes.now)) }
     ensures scaling { result.scaling ≡ (set_given (parse_aps_rbsp bytes.now)).scaling }
 {
-    match open_rbsp(bytes) {
-        Opening::Alf { id, chroma } => no_scaling_in(alf_head(bytes, id, chroma)),
-        Opening::Lmcs { id, chroma } => no_scaling_in(lmcs_head(bytes, id, chroma)),
-        Opening::Scaling { id, chroma } => scaling_alone(bytes, id, chroma),
-        Opening::Refused(why) => no_scaling_in(refuse_head(why)),
+    let (reader, head) = match open_rbsp(bytes) {
+        Ok(opened) => opened,
+        Err(why) => return no_scaling_in(refuse_head(why)),
+    };
+    let id = head.aps_adaptation_parameter_set_id;
+    let chroma = head.aps_chroma_present_flag;
+    match head.kind {
+        ApsKind::Alf => no_scaling_in(alf_head(reader, head)),
+        ApsKind::Lmcs => no_scaling_in(lmcs_head(bytes, id, chroma)),
+        ApsKind::Scaling => scaling_alone(bytes, id, chroma),
     }
 }
