@@ -1,0 +1,75 @@
+// lmcs_data(), H.266 7.3.2.19, read.
+ghost use Rattle.std.specs.Prelude.{◌≡◌, true, false, replicate};
+ghost use Rattle.aps.specs.LmcsSyntax.{in_range, lmcs_head, lmcs_codewords, lmcs};
+ghost use Rattle.aps.specs.ApsSyntax.{zero_lmcs};
+ghost use Rattle.aps.specs.Reads.{filled, Reads};
+
+use crate::lmcs::{VvcLmcsData, in_range};
+use crate::reader::Reader;
+use bitstream::Refusal;
+
+// The smallest bin, the delta of the largest one and the precision - 1: all three are read, then judged.
+fn read_head(reader: &mut Reader, d: &mut VvcLmcsData) -> Result<(), Refusal>
+    ensures field { Reads lmcs_head (filled result (d.new.lmcs_min_bin_idx, (d.new.lmcs_delta_max_bin_idx, d.new.lmcs_delta_cw_prec_minus1)) reader.new.at)
+        reader.old reader.new }
+    ensures others { (d.new.lmcs_delta_abs_cw ≡ d.old.lmcs_delta_abs_cw) × (d.new.lmcs_delta_sign_cw_flag ≡ d.old.lmcs_delta_sign_cw_flag)
+        × (d.new.lmcs_delta_abs_crs ≡ d.old.lmcs_delta_abs_crs) × (d.new.lmcs_delta_sign_crs_flag ≡ d.old.lmcs_delta_sign_crs_flag) }
+{
+    let min = reader.ue()?;
+    let max = reader.ue()?;
+    let prec = reader.ue()?;
+    if !in_range(min, max, prec) {
+        return Err(Refusal::InvalidData);
+    }
+    d.lmcs_min_bin_idx = min;
+    d.lmcs_delta_max_bin_idx = max;
+    d.lmcs_delta_cw_prec_minus1 = prec;
+    Ok(())
+}
+
+// Bins min to 15 - max, into arrays of zeros.
+fn read_codewords(
+    reader: &mut Reader,
+    min: u32,
+    max: u32,
+    prec: u32,
+    abs: &mut [u32; 16],
+    sign: &mut [bool; 16],
+) -> Result<(), Refusal>
+    requires { (in_range (min, (max, prec)) ≡ true) × (abs.old ≡ replicate 16 0) × (sign.old ≡ replicate 16 false) }
+    ensures { Reads (lmcs_codewords (min, (max, prec))) (filled result (abs.new, sign.new) reader.new.at) reader.old reader.new }
+{
+    for i in min as usize..16 - max as usize {
+        let (magnitude, negative) = reader.signed(prec + 1)?;
+        abs[i] = magnitude;
+        sign[i] = negative;
+    }
+    Ok(())
+}
+
+// lmcs_data(), into a record of zeros. Its three codes do not pay for a table.
+pub(crate) fn read_lmcs_data(
+    reader: &mut Reader,
+    chroma: bool,
+    d: &mut VvcLmcsData,
+) -> Result<(), Refusal>
+    requires { d.old ≡ zero_lmcs }
+    ensures { Reads (lmcs chroma) (filled result d.new reader.new.at) reader.old reader.new }
+{
+    read_head(reader, d)?;
+    read_codewords(
+        reader,
+        d.lmcs_min_bin_idx,
+        d.lmcs_delta_max_bin_idx,
+        d.lmcs_delta_cw_prec_minus1,
+        &mut d.lmcs_delta_abs_cw,
+        &mut d.lmcs_delta_sign_cw_flag,
+    )?;
+    if !chroma {
+        return Ok(());
+    }
+    let (abs, sign) = reader.signed(3)?;
+    d.lmcs_delta_abs_crs = abs as u8;
+    d.lmcs_delta_sign_crs_flag = sign;
+    Ok(())
+}
