@@ -24,14 +24,14 @@ use Rattle.aps.proofs.ScalingSteps.{Short, id-short}
 -- ---- stores
 
 module _ {A B : Type 0} where
-  map-set : (f : A → B) (l : List A) (i : ℕ) (x : A) → map f (set l i x) ≡ set (map f l) i (f x)
+  pub map-set : (f : A → B) (l : List A) (i : ℕ) (x : A) → map f (set l i x) ≡ set (map f l) i (f x)
   map-set f [] i x = refl
   map-set f (y ∷ l) zero x = refl
   map-set f (y ∷ l) (suc i) x = ap {B = List B} (λ t. f y ∷ t) (map-set f l i x)
 
 module _ {A : Type 0} where
   -- a store from n on leaves the first n out
-  drop-set : (n i : ℕ) (l : List A) (x : A) → drop (suc n) (set l i x) ≡ cond (ltb n i) (set (drop (suc n) l) (i - suc n) x) (drop (suc n) l)
+  pub drop-set : (n i : ℕ) (l : List A) (x : A) → drop (suc n) (set l i x) ≡ cond (ltb n i) (set (drop (suc n) l) (i - suc n) x) (drop (suc n) l)
   drop-set n i l x = go (ltb n i) refl
     where
       go : (b : Bool) → ltb n i ≡ b → drop (suc n) (set l i x) ≡ cond b (set (drop (suc n) l) (i - suc n) x) (drop (suc n) l)
@@ -65,14 +65,14 @@ module _ {A : Type 0} where
 
 -- ---- the lists of the ids, one after the other
 
-abbrev row_of : Entry → List ℤ
+abbrev pub row_of : Entry → List ℤ
 row_of e = filled e.1.1.1.1
 
 front : (x : Entry) (l : List ℤ) (e : Entry) → x.1.1.1.1 ≡ [] → Short e → row_of e ++ l ≡ sets (row_of x ++ l) 0 e.1.1.1.1
 unfolding filled
 front x l e b k = rw b (sym (sets-front e.1.1.1.1 64 64 (pos 0) l (omega arith) k))
 
-lists-set : (es : List Entry) (i : ℕ) (e d : Entry) → i < length es → (get_or es i d).1.1.1.1 ≡ [] → Short e
+pub lists-set : (es : List Entry) (i : ℕ) (e d : Entry) → i < length es → (get_or es i d).1.1.1.1 ≡ [] → Short e
     → joined (map row_of (set es i e)) ≡ sets (joined (map row_of es)) (64 * i) e.1.1.1.1
 lists-set [] i e d h b k = absurd (omega arith)
 lists-set (x ∷ es) zero e d h b k = front x (joined (map row_of es)) e b k
@@ -102,16 +102,16 @@ pub record Keeping (chroma : Bool) (s : List ℕ) (p i : ℕ) (copy pred : List 
   pub count : i ≤ 28
 
 -- the value that another was made of
-record Made {A B : Type 0} (f : A → B) (o : Outcome A) (b : B) (q : ℕ) : Type 0 where
-  of : A
-  is : o ≡ value of q
-  makes : f of ≡ b
+pub record Made {A B : Type 0} (f : A → B) (o : Outcome A) (b : B) (q : ℕ) : Type 0 where
+  pub of : A
+  pub is : o ≡ value of q
+  pub makes : f of ≡ b
 
-made : {A B : Type 0} (f : A → B) (o : Outcome A) (b : B) (q : ℕ) → value b q ≡ map_outcome f o → Made f o b q
+pub made : {A B : Type 0} (f : A → B) (o : Outcome A) (b : B) (q : ℕ) → value b q ≡ map_outcome f o → Made f o b q
 made f (value a r) b q e = let m : r ≡ q = cc in record { of = a; is = ap (value a) m; makes = cc }
 made f (refused n) b q e = let z : ◌≡◌ {A = ℕ} 0 1 = cc in absurd (omega arith)
 
-unmade : {A B : Type 0} (f : A → B) (o : Outcome A) (n : ℕ) → refused n ≡ map_outcome f o → o ≡ refused n
+pub unmade : {A B : Type 0} (f : A → B) (o : Outcome A) (n : ℕ) → refused n ≡ map_outcome f o → o ≡ refused n
 unmade f (value a r) n e = let z : ◌≡◌ {A = ℕ} 0 1 = cc in absurd (omega arith)
 unmade f (refused m) n e = cc
 

@@ -58,8 +58,7 @@ fn read_dc(reader: &mut Reader, codes: &[u16; 512], id: usize) -> Result<i32, Re
     if id <= 13 {
         return Ok(0);
     }
-    let dc = reader.se8(codes)?;
-    Ok(dc)
+    reader.se8(codes)
 }
 
 // The DC of an id above 13.
@@ -85,8 +84,7 @@ fn read_delta(
     if !delta_sent(id, used) {
         return Ok(0);
     }
-    let delta = reader.ue_to(codes, max_id_delta(id) as u32)?;
-    Ok(delta)
+    reader.ue_to(codes, max_id_delta(id) as u32)
 }
 
 // One id, of which nothing is stored yet; an uncoded one is a copy.
