@@ -9,7 +9,7 @@ use lib.Dec.{leb}
 use lib.ListN.{length}
 use Rattle.bitstream.specs.Outcome.{Outcome, value, refused, number, map_outcome, ◌then◌}
 use Rattle.bitstream.specs.declared.Refusal.{Refusal}
-use Rattle.bitstream.specs.Fields.{lacks}
+use Rattle.bitstream.specs.Fields.{lacks, read_trailing}
 use Rattle.aps.specs.Kinds.{largest_id}
 use Rattle.aps.specs.Codec.{u, ◌▷◌, via, judged, provided, never}
 use Rattle.aps.specs.Elements.{flag}
@@ -17,7 +17,7 @@ use Rattle.aps.specs.AlfSyntax.{alf}
 use Rattle.aps.specs.LmcsSyntax.{lmcs}
 use Rattle.aps.specs.ScalingSyntax.{Entry, scaling_syntax, keep}
 use Rattle.aps.specs.ApsSyntax.{zero_alf, zero_lmcs, zero_scaling, Payload, of_alf, of_lmcs, of_scaling, payload, aps_syntax, to_aps, aps}
-use Rattle.aps.specs.Inner.{Headed, with_extension, finished}
+use Rattle.aps.specs.Inner.{Headed, set_of, with_extension, ended, finished}
 use Rattle.aps.specs.Rbsp.{closed, read_rbsp, parse_aps_rbsp}
 use Rattle.aps.specs.declared.alf.VvcAlfData.{VvcAlfData}
 use Rattle.aps.specs.declared.lmcs.VvcLmcsData.{VvcLmcsData}
@@ -29,19 +29,6 @@ use Rattle.aps.specs.declared.aps.ApsOutcome.TheVariants as Aps
 use Rattle.aps.specs.Reading.{outcome_read, set_given}
 use Rattle.aps.proofs.Answers.{answered}
 use Rattle.aps.proofs.FieldSteps.{none-lacking, lacks-part, u-read, u-here, flag-read, flag-here, run-lacking}
-
--- a set of each kind with extension flag 0
-abbrev pub set_of : ApsKind → ℕ → Bool → VvcAlfData → VvcLmcsData → VvcScalingListData → VvcAps
-set_of kind id chroma a l s =
-    record {
-      kind = kind;
-      aps_adaptation_parameter_set_id = id;
-      aps_chroma_present_flag = chroma;
-      aps_extension_flag = false;
-      alf = a;
-      lmcs = l;
-      scaling = s;
-    }
 
 -- the set that a payload makes
 abbrev pub set_with : ℕ → Bool → Payload → VvcAps
@@ -160,6 +147,23 @@ module _ (s : List ℕ) (id : ℕ) (chroma : Bool) where
       go (suc (suc (suc k))) h = never-read k id chroma s
 
 -- ---- how a set ends
+
+-- what closes the RBSP, by the extension flag that was read
+pub ended-finished : (s : List ℕ) (a : VvcAps) (q : ℕ) → map_outcome (with_extension a) (ended s q) ≡ finished s a q
+unfolding ended finished closed with_extension
+ended-finished s a q = first (flag.read s q)
+  where
+    last : (x : Bool) (r : ℕ) (o : Outcome (Unit {0}))
+        → map_outcome (with_extension a) (cond x (value x r) (o then λ e t. value x t)) ≡ cond x (value (with_extension a x) r) (o then λ e t. value (with_extension a x) t)
+    last true r o = refl
+    last false r (value e t) = refl
+    last false r (refused n) = refl
+
+    first : (o : Outcome Bool)
+        → map_outcome (with_extension a) (o then λ x r. cond x (value x r) (read_trailing s r then λ e t. value x t))
+        ≡ (o then λ x r. cond x (value (with_extension a x) r) (read_trailing s r then λ e t. value (with_extension a x) t))
+    first (value x r) = last x r (read_trailing s r)
+    first (refused n) = refl
 
 module _ (a : VvcAps) (x : Bool) (end : ApsOutcome) {o o' : Outcome VvcAps} (f : outcome_read end (with_extension a x) ≡ o) (g : o' ≡ o) where
   pub set_ended : (q : ℕ) → end ≡ Aps.Read q → (value (with_extension a x) q ≡ o') × (with_extension a x ≡ set_given o')

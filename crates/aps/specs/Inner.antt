@@ -1,9 +1,9 @@
 -- For the proofs' sake: what the inner functions promise each other on the way. No public contract says anything of this file.
 use Rattle.std.specs.Prelude.{◌≡◌, Bool, true, false, cond, not, List, [], ◌∷◌, ℕ, ◌+◌, ◌*◌, ◌/◌, ◌%◌, ◌^◌, ◌≤◌, eqb, ltb, ℤ, length, take}
 use Rattle.std.proofs.lemmas.List.Edits.{sets}
-use Rattle.bitstream.specs.Outcome.{Outcome, value, refused, number, ◌then◌, map_outcome}
+use Rattle.bitstream.specs.Outcome.{Outcome, value, refused, number, ◌then◌}
 use Rattle.bitstream.specs.Bits.{field_at, put_bits}
-use Rattle.bitstream.specs.Fields.{lacks}
+use Rattle.bitstream.specs.Fields.{lacks, read_trailing}
 use Rattle.bitstream.specs.Windows.{IsWindow}
 use Rattle.bitstream.specs.declared.Refusal.{Refusal}
 use Rattle.bitstream.specs.declared.Refusal.TheVariants.{InvalidData}
@@ -12,7 +12,6 @@ use Rattle.aps.specs.Codec.{Codec}
 use Rattle.aps.specs.Elements.{flag}
 use Rattle.aps.specs.LmcsSyntax.{LmcsHead, lmcs_codewords, lmcs_chroma, to_lmcs}
 use Rattle.aps.specs.ScalingSyntax.{Entry}
-use Rattle.aps.specs.AlfSyntax.{to_luma, to_cc, to_alf, alf_filters}
 use Rattle.aps.specs.ApsSyntax.{zero_alf, zero_lmcs, zero_scaling}
 use Rattle.aps.specs.Rbsp.{closed, read_rbsp, parse_aps_rbsp}
 use Rattle.aps.specs.Reading.{outcome_read, set_given, head_of}
@@ -20,26 +19,23 @@ use Rattle.aps.specs.declared.fields.Stop.{Stop}
 use Rattle.aps.specs.declared.fields.SignedField.{SignedField}
 use Rattle.aps.specs.declared.fields.SignedField.TheVariants as Signed
 use Rattle.aps.specs.declared.windows.Window.{Window}
-use Rattle.aps.specs.declared.alf_fields.HeldCoefficient.{HeldCoefficient}
-use Rattle.aps.specs.declared.alf_fields.HeldCoefficient.TheVariants as Coefficient
 use Rattle.aps.specs.declared.scaling_list_data.HeldSum.{HeldSum}
 use Rattle.aps.specs.declared.scaling_list_data.HeldSum.TheVariants as Sum
 use Rattle.aps.specs.declared.alf.VvcAlfLuma.{VvcAlfLuma}
 use Rattle.aps.specs.declared.alf.VvcAlfChroma.{VvcAlfChroma}
 use Rattle.aps.specs.declared.alf.VvcAlfCcFilters.{VvcAlfCcFilters}
 use Rattle.aps.specs.declared.alf.VvcAlfData.{VvcAlfData}
-use Rattle.aps.specs.declared.alf.AlfRead.{AlfRead}
-use Rattle.aps.specs.declared.alf.Signals.{Signals}
+use Rattle.aps.specs.AlfSyntax.{to_luma, to_cc}
 use Rattle.aps.specs.declared.lmcs.VvcLmcsData.{VvcLmcsData}
 use Rattle.aps.specs.declared.lmcs.LmcsRead.{LmcsRead}
 use Rattle.aps.specs.declared.scaling_list.VvcScalingListData.{VvcScalingListData}
 use Rattle.aps.specs.declared.scaling_list_data.CoefficientsRead.{CoefficientsRead}
 use Rattle.aps.specs.declared.scaling_list_data.IdRead.{IdRead}
 use Rattle.aps.specs.declared.aps.ApsOutcome.{ApsOutcome}
+use Rattle.aps.specs.declared.aps.ApsKind.{ApsKind}
 use Rattle.aps.specs.declared.aps.ApsHead.{ApsHead}
 use Rattle.aps.specs.declared.aps.HeadReading.{HeadReading}
 use Rattle.aps.specs.declared.aps.Opening.{Opening}
-use Rattle.aps.specs.declared.alf_set.AlfAnswer.{AlfAnswer}
 use Rattle.aps.specs.declared.alf_set.AlfReading.{AlfReading}
 use Rattle.aps.specs.declared.lmcs_set.LmcsAnswer.{LmcsAnswer}
 use Rattle.aps.specs.declared.lmcs_set.LmcsReading.{LmcsReading}
@@ -84,15 +80,6 @@ Known s w = IsWindow s w.at w.left w.bits
 abbrev pub ends_at : {A : Type 0} → List ℕ → ℕ → A → Outcome A
 ends_at s q a = cond (ltb (length s * 8) q) (refused 1) (value a q)
 
-abbrev pub outcome_held : HeldCoefficient → Outcome (ℕ × Bool)
-outcome_held (Coefficient.Value m s w) = value (m, s) w.at
-outcome_held (Coefficient.Refused e) = refused (number e)
-
--- the window after a coefficient
-abbrev pub KnownAfter : List ℕ → HeldCoefficient → Type 0
-KnownAfter s (Coefficient.Value m b w) = Known s w
-KnownAfter s (Coefficient.Refused e) = Unit {0}
-
 abbrev pub outcome_sum : HeldSum → Outcome ℤ
 outcome_sum (Sum.Value v w) = value v w.at
 outcome_sum (Sum.Refused e) = refused (number e)
@@ -102,9 +89,9 @@ abbrev pub KnownSum : List ℕ → HeldSum → Type 0
 KnownSum s (Sum.Value v w) = Known s w
 KnownSum s (Sum.Refused e) = Unit {0}
 
--- the first six fields of two bits of a word
+-- six fields of two bits out of twelve bits
 abbrev pub six_of : ℕ → List ℕ
-six_of w = w / 2 ^ 62 ∷ w / 2 ^ 60 % 4 ∷ w / 2 ^ 58 % 4 ∷ w / 2 ^ 56 % 4 ∷ w / 2 ^ 54 % 4 ∷ w / 2 ^ 52 % 4 ∷ []
+six_of w = w / 2 ^ 10 ∷ w / 2 ^ 8 % 4 ∷ w / 2 ^ 6 % 4 ∷ w / 2 ^ 4 % 4 ∷ w / 2 ^ 2 % 4 ∷ w % 4 ∷ []
 
 -- what stands before the payload: kind, id and chroma flag
 pub record Headed (s : List ℕ) (kind id : ℕ) (chroma : Bool) : Type 0 where
@@ -112,6 +99,19 @@ pub record Headed (s : List ℕ) (kind id : ℕ) (chroma : Bool) : Type 0 where
   pub kind-is : field_at s 0 3 ≡ kind
   pub id-is : field_at s 3 5 ≡ id
   pub chroma-is : not (eqb (field_at s 8 1) 0) ≡ chroma
+
+-- a set of each kind before its extension flag is read
+abbrev pub set_of : ApsKind → ℕ → Bool → VvcAlfData → VvcLmcsData → VvcScalingListData → VvcAps
+set_of kind id chroma a l s =
+    record {
+      kind = kind;
+      aps_adaptation_parameter_set_id = id;
+      aps_chroma_present_flag = chroma;
+      aps_extension_flag = false;
+      alf = a;
+      lmcs = l;
+      scaling = s;
+    }
 
 -- the set with the extension flag read
 unfoldable pub with_extension : VvcAps → Bool → VvcAps
@@ -126,11 +126,15 @@ with_extension a x =
       scaling = a.scaling;
     }
 
+-- the extension flag, and where the RBSP ends by it
+unfoldable pub ended : List ℕ → ℕ → Outcome Bool
+ended s q = flag.read s q then λ x r. cond x (value x r) (read_trailing s r then λ e t. value x t)
+
 -- the extension flag and what closes the RBSP
 unfoldable pub finished : List ℕ → VvcAps → ℕ → Outcome VvcAps
 finished s a q = flag.read s q then λ x r. closed s (with_extension a x) r
 
--- the records put together from the arrays that reading fills
+-- the records put together from arrays
 abbrev pub luma_of : Bool → ℕ → List ℕ → List ℕ → List Bool → List ℕ → VvcAlfLuma
 luma_of clip count-1 idx abs sign clips = to_luma (clip, (count-1, (idx, ((abs, sign), clips))))
 
@@ -140,67 +144,6 @@ chroma_of clip count-1 abs sign clips =
 
 abbrev pub cc_of : ℕ → List ℕ → List Bool → VvcAlfCcFilters
 cc_of count-1 abs sign = to_cc (count-1, (abs, sign))
-
-abbrev pub alf_of : AlfRead → List ℕ → List ℕ → List Bool → List ℕ → List ℕ → List Bool → List ℕ → List ℕ → List Bool → List ℕ → List Bool → VvcAlfData
-alf_of r luma-idx luma-abs luma-sign luma-clip chroma-abs chroma-sign chroma-clip cb-abs cb-sign cr-abs cr-sign =
-    to_alf (
-      r.luma,
-      (
-        r.chroma,
-        (
-          r.cb,
-          (
-            r.cr,
-            (
-              luma_of r.luma_clip r.luma_count_minus1 luma-idx luma-abs luma-sign luma-clip,
-              (
-                chroma_of r.chroma_clip r.chroma_count_minus1 chroma-abs chroma-sign chroma-clip,
-                (cc_of r.cb_count_minus1 cb-abs cb-sign, cc_of r.cr_count_minus1 cr-abs cr-sign),
-              ),
-            ),
-          ),
-        ),
-      ),
-    )
-
--- alf_data( ) after its flags
-abbrev pub alf_after : Signals → List ℕ → Outcome VvcAlfData
-alf_after r s =
-    after r.stop (λ q. map_outcome (λ x. to_alf (r.luma, (r.chroma, (r.cb, (r.cr, x))))) ((alf_filters r.luma r.chroma r.cb r.cr).read s q))
-
--- no filters, for this reason
-abbrev pub no_alf : Refusal → AlfRead
-no_alf why =
-    record {
-      stop = Stop.Refused why;
-      luma = false;
-      chroma = false;
-      cb = false;
-      cr = false;
-      luma_clip = false;
-      luma_count_minus1 = 0;
-      chroma_clip = false;
-      chroma_count_minus1 = 0;
-      cb_count_minus1 = 0;
-      cr_count_minus1 = 0;
-    }
-
--- no filters, where the reading stopped
-abbrev pub no_filters : Stop → AlfRead
-no_filters stop =
-    record {
-      stop = stop;
-      luma = false;
-      chroma = false;
-      cb = false;
-      cr = false;
-      luma_clip = false;
-      luma_count_minus1 = 0;
-      chroma_clip = false;
-      chroma_count_minus1 = 0;
-      cb_count_minus1 = 0;
-      cr_count_minus1 = 0;
-    }
 
 abbrev pub scaling_of : List Bool → List Bool → List ℕ → List ℤ → List ℤ → VvcScalingListData
 scaling_of copy pred delta dc list =
@@ -234,11 +177,7 @@ assembled h d l s =
 abbrev pub Assembles : ApsOutcome → ApsHead → VvcAlfData → VvcLmcsData → VvcScalingListData → List ℕ → Type 0
 Assembles o h d l c s = (a : VvcAps) → a ≡ assembled h d l c → Answers o a s
 
--- the answers to s for the three kinds, with the arrays that they fill
-abbrev pub AnswersAlf : AlfAnswer → List ℕ → List ℕ → List ℕ → List Bool → List ℕ → List ℕ → List Bool → List ℕ → List ℕ → List Bool → List ℕ → List Bool → Type 0
-AnswersAlf r s luma-idx luma-abs luma-sign luma-clip chroma-abs chroma-sign chroma-clip cb-abs cb-sign cr-abs cr-sign =
-    Assembles r.outcome r.head (alf_of r.read luma-idx luma-abs luma-sign luma-clip chroma-abs chroma-sign chroma-clip cb-abs cb-sign cr-abs cr-sign) zero_lmcs zero_scaling s
-
+-- the answers to s for two kinds, with the arrays that they fill
 abbrev pub AnswersLmcs : LmcsAnswer → List ℕ → List ℕ → List Bool → Type 0
 AnswersLmcs r s abs sign = Assembles r.outcome r.head zero_alf (lmcs_of r.read abs sign) zero_scaling s
 

@@ -1,12 +1,14 @@
 // What follows the payload of a set: the extension flag, and where the RBSP ends.
 ghost use Rattle.std.specs.Prelude.{◌≡◌, ◌*◌, ◌≤◌, length};
-ghost use Rattle.aps.specs.Inner.{with_extension, finished};
+ghost use Rattle.aps.specs.Inner.{with_extension, finished, ended};
+ghost use Rattle.aps.specs.Reads.{given};
 ghost use Rattle.aps.specs.Rbsp.{closed};
 ghost use Rattle.aps.specs.Reading.{outcome_read};
 ghost use Rattle.aps.specs.declared.aps.VvcAps.{VvcAps};
 
 use crate::aps::ApsOutcome;
 use crate::fields::{lacks_bits, read_flag};
+use crate::reader::Reader;
 use bitstream::Refusal;
 use bitstream::bit_reader::{BitReader, Trailing};
 
@@ -45,4 +47,15 @@ pub(crate) fn read_ending(bytes: &[u8], p: usize) -> Ending
     let extension = read_flag(bytes, p);
     let outcome = read_end(bytes, p + 1, extension);
     Ending { outcome, extension }
+}
+
+// The extension flag, and what closes the RBSP: with extension flag 1 nothing more is read.
+pub(crate) fn close_rbsp(reader: &mut Reader) -> Result<bool, Refusal>
+    ensures { given result reader.new.at ≡ ended reader.old.bytes.now reader.old.at }
+{
+    let extension = reader.flag()?;
+    if !extension {
+        reader.trailing()?;
+    }
+    Ok(extension)
 }

@@ -4,11 +4,12 @@ ghost use Rattle.bitstream.specs.Windows.{IsWindow, ShortCodes};
 
 use crate::fields::se_of;
 use bitstream::Refusal;
-use bitstream::bit_reader::{BitReader, FieldU};
+use bitstream::bit_reader::{BitReader, FieldU, Trailing};
 use bitstream::short_codes::code_by_table;
 use bitstream::window::window;
 
 // The `left` highest of `bits` are the bits from bit `at` on, zeros past the end.
+#[derive(Drop)]
 pub(crate) struct Reader<'a> {
     bytes: &'a [u8],
     at: usize,
@@ -21,8 +22,9 @@ pub(crate) struct Reader<'a> {
 
 impl<'a> Reader<'a> {
     ghost use Rattle.std.specs.Prelude.{pos, negsuc};
-    ghost use Rattle.aps.specs.Codec.{u, ue};
-    ghost use Rattle.aps.specs.Elements.{flag, ue_to, se_in, signed};
+    ghost use Rattle.bitstream.specs.Fields.{read_trailing};
+    ghost use Rattle.aps.specs.Codec.{u, ue, when};
+    ghost use Rattle.aps.specs.Elements.{flag, no_flag, ue_to, se_in, signed};
     ghost use Rattle.aps.specs.AlfSyntax.{coefficient};
     ghost use Rattle.aps.specs.Reads.{given, Reads, Stands};
 
@@ -96,6 +98,13 @@ impl<'a> Reader<'a> {
     {
         let bit = self.u(1, 1)?;
         Ok(bit != 0)
+    }
+
+    // The same where it is sent, else false.
+    pub(crate) fn flag_if(&mut self, sent: bool) -> Result<bool, Refusal>
+        ensures { Reads (when sent no_flag flag) (given result self.new.at) self.old self.new }
+    {
+        if sent { self.flag() } else { Ok(false) }
     }
 
     // A magnitude u(n), and its sign if it is not 0.
@@ -172,6 +181,21 @@ impl<'a> Reader<'a> {
             return Err(Refusal::InvalidData);
         }
         Ok(se_of(k))
+    }
+
+    // rbsp_trailing_bits(): a 1 bit, then zeros to the end of the byte.
+    pub(crate) fn trailing(&mut self) -> Result<(), Refusal>
+        ensures field { given result self.new.at ≡ read_trailing self.old.bytes.now self.old.at }
+        ensures bytes { self.new.bytes.now ≡ self.old.bytes.now }
+    {
+        match (BitReader { bit_pos: self.at }).read_rbsp_trailing_bits(self.bytes) {
+            Trailing::Aligned(next) => {
+                self.at = next.bit_pos;
+                self.left = 0;
+                Ok(())
+            }
+            Trailing::Refused(why) => Err(why),
+        }
     }
 
     // A magnitude in 0..128, and its sign if it is not 0: at most 17 bits and the sign, which is sent unless the first bit is 1.

@@ -4,7 +4,7 @@ use mathlib.Core.List.{List}
 use Prim.Native.Nat.{ℕ, ◌≤◌}
 use native.Mathlib.Omega.{arith}
 use Rattle.aps.specs.LmcsSyntax.{lmcs}
-use Rattle.aps.specs.Inner.{outcome_stop, lmcs_of, with_extension}
+use Rattle.aps.specs.Inner.{set_of, outcome_stop, lmcs_of, with_extension}
 use Rattle.aps.specs.ApsSyntax.{zero_alf, zero_scaling}
 use Rattle.aps.specs.declared.lmcs.VvcLmcsData.{VvcLmcsData}
 use Rattle.aps.specs.declared.fields.Stop.{Stop}
@@ -13,7 +13,7 @@ use Rattle.aps.proofs.CodecLaws.{inside}
 use Rattle.aps.proofs.LmcsLaws.{lmcs-law}
 use Rattle.aps.proofs.FieldLaws.{lacks-none}
 use Rattle.aps.proofs.Answers.{answered, refused-lmcs}
-use Rattle.aps.proofs.RbspSteps.{set_of, lmcs-refused, lmcs-id, lmcs-set, set_ended, set-refused}
+use Rattle.aps.proofs.RbspSteps.{lmcs-refused, lmcs-id, lmcs-set, set_ended, set-refused}
 use Rattle.aps.proofs.lmcs_set.lmcs_answer.Goals as goal
 use Rattle.aps.proofs.lmcs_set.lmcs_answer.Goals.{After-parse_lmcs_data-read}
 

@@ -5,7 +5,7 @@ use Prim.Native.Nat.{ℕ}
 use native.Mathlib.Omega.{arith}
 use Rattle.bitstream.specs.Outcome.{map_outcome}
 use Rattle.aps.specs.ScalingSyntax.{keep, scaling_syntax}
-use Rattle.aps.specs.Inner.{outcome_stop, scaling_of, with_extension}
+use Rattle.aps.specs.Inner.{set_of, outcome_stop, scaling_of, with_extension}
 use Rattle.aps.specs.ApsSyntax.{zero_alf, zero_lmcs}
 use Rattle.aps.specs.declared.scaling_list.VvcScalingListData.{VvcScalingListData}
 use Rattle.aps.specs.declared.fields.Stop.{Stop}
@@ -14,7 +14,7 @@ use Rattle.aps.proofs.Bounds.{made_inside}
 use Rattle.aps.proofs.ScalingLaws.{scaling_syntax-law}
 use Rattle.aps.proofs.FieldLaws.{lacks-none}
 use Rattle.aps.proofs.Answers.{answered, refused-scaling}
-use Rattle.aps.proofs.RbspSteps.{set_of, scaling-refused, scaling-id, scaling-set, set_ended, set-refused}
+use Rattle.aps.proofs.RbspSteps.{scaling-refused, scaling-id, scaling-set, set_ended, set-refused}
 use Rattle.aps.proofs.scaling_set.scaling_answer.Goals as goal
 use Rattle.aps.proofs.scaling_set.scaling_answer.Goals.{After-parse_scaling_list_data-stop}
 
