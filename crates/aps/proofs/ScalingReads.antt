@@ -92,7 +92,11 @@ keep-set es i e h b k =
     }
 
 -- nothing is stored of an id: its parts are as they were
-module _ {d : VvcScalingListData} {id : ℕ} (b : stored_in d id blank ≡ d) where
+module _ (d : VvcScalingListData) (id : ℕ) (b : stored_in d id blank ≡ d) where
+  pub no-copy : set d.copy_mode_flag id false ≡ d.copy_mode_flag
+  unfolding stored_in
+  no-copy = ap (λ (d : VvcScalingListData). d.copy_mode_flag) b
+
   pub no-pred : set d.pred_mode_flag id false ≡ d.pred_mode_flag
   unfolding stored_in
   no-pred = ap (λ (d : VvcScalingListData). d.pred_mode_flag) b
@@ -161,4 +165,4 @@ module _ (chroma : Bool) {w0 : Reader} where
 
     pub storing-done : i ≤ 28 → 28 ≤ i → Reads (kept chroma) (value d w1.at) w0 w1
     unfolding scaling_syntax
-    storing-done h k = rw S.keeps at (reads-via _ _ _ (filling-done (id_at chroma) 28 blank S.reading h (λ j a b. absurd (omega arith))))
+    storing-done h k = rw (← S.keeps) (reads-via _ _ _ (filling-done (id_at chroma) 28 blank S.reading h (λ j a b. absurd (omega arith))))
