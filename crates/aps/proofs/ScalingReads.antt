@@ -1,18 +1,18 @@
 -- The steps of scaling_list_data(), as a reader takes them, and the loops over the sums of a list and over the ids.
 use mathlib.Core.Path.{◌≡◌, refl, sym, ap, ◌∙◌}
-use mathlib.Core.Bool.{Bool, true, false, cond, not}
+use mathlib.Core.Bool.{Bool, false, cond}
 use mathlib.Core.List.{List, [], ◌∷◌, ◌++◌, append_assoc, append-nil, map}
-use Prim.Native.Nat.{ℕ, zero, suc, ◌+◌, ◌-◌, ◌*◌, ◌≤◌, ◌<◌}
+use Prim.Native.Nat.{ℕ, suc, ◌+◌, ◌-◌, ◌*◌, ◌≤◌, ◌<◌}
 use native.Mathlib.Nat.{sub-zero}
 use native.Mathlib.Numerals.{add-one}
 use native.Mathlib.Omega.{arith}
 use lib.Dec.{ltb}
 use lib.IntN.{ℤ, pos, nat_abs}
 use lib.ListN.{length, get_or, take, drop, set, replicate, length-set}
-use lib.Seq.{sets, take-suc-set, take_all, drop-cons, set-get_or}
+use lib.Seq.{take-suc-set, take_all, drop-cons, set-get_or}
 use Rattle.bitstream.specs.Outcome.{Outcome, value, refused, map_outcome, ◌then◌}
 use Rattle.aps.specs.ApsSyntax.{zero_scaling}
-use Rattle.aps.specs.Codec.{Codec, via, each}
+use Rattle.aps.specs.Codec.{via}
 use Rattle.aps.specs.Reads.{Reads}
 use Rattle.aps.specs.ScalingStore.{blank, stored_in, id_in, kept}
 use Rattle.aps.specs.ScalingSyntax.{Entry, step_at, sums, id_at, scaling_syntax, filled, keep}
@@ -21,7 +21,7 @@ use Rattle.aps.specs.declared.scaling_list.VvcScalingListData.{VvcScalingListDat
 use Rattle.aps.proofs.Gives.{given}
 use Rattle.aps.proofs.ReaderLaws.{reads-via, Filling, filling-start, filling-more, filling-refused, filling-done}
 use Rattle.aps.proofs.ScalingSteps.{step_small, sums-end, sums-more, sums-refused, Short, id-short}
-use Rattle.aps.proofs.ScalingKeep.{row_of, map-set, drop-set, lists-set, Made, made, unmade}
+use Rattle.aps.proofs.ScalingKeep.{map-set, drop-set, lists-set, made, unmade}
 
 -- The loop over the sums of a list: those before i are stored in a, and what is left to read follows them.
 pub record Summing (id n : ℕ) (dc : ℤ) (w0 : Reader) (i : ℕ) (a : List ℤ) (sum : ℤ) (w : Reader) : Type 0 where

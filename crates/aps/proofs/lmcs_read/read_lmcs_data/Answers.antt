@@ -1,5 +1,5 @@
 -- `read_lmcs_data`: the head, the codewords, then the chroma delta, whose 3 bits fit a byte.
-use mathlib.Core.Path.{◌≡◌, sym, ap, ◌∙◌}
+use mathlib.Core.Path.{sym, ap, ◌∙◌}
 use native.Mathlib.Omega.{arith}
 use Rattle.aps.specs.Codec.{ue, ◌▷◌}
 use Rattle.aps.specs.Elements.{no_signed}

@@ -1,9 +1,8 @@
 -- `read_id`: an uncoded id takes no bits, a copy has no DC and no list.
 use borrow.Author.Rules.{rules}
-use borrow.Rule.Slice.PartMut.{mid_of}
 use mathlib.Core.Path.{◌≡◌, refl, sym, ◌∙◌}
 use mathlib.Core.Bool.{true, false}
-use Prim.Native.Nat.{◌+◌, ◌-◌, ◌*◌, ◌≤◌}
+use Prim.Native.Nat.{◌+◌, ◌-◌, ◌*◌}
 use native.Mathlib.Omega.{arith}
 use lib.IntN.{pos}
 use lib.ListN.{length, length-drop}
@@ -12,7 +11,7 @@ use mathlib.Core.List.{[]}
 use mir.Syntax.{w32}
 use mir.Val.{to_z, of_z}
 use Rattle.bitstream.specs.Outcome.{value}
-use Rattle.aps.specs.Elements.{flag, no_flag, no_pair}
+use Rattle.aps.specs.Elements.{no_flag, no_pair}
 use Rattle.aps.specs.Reads.{Reads}
 use Rattle.aps.specs.ScalingStore.{stored_in}
 use Rattle.aps.specs.ScalingSyntax.{just, no_entries, no_entry, entry_syntax, coefficients, id_coded, id_at}

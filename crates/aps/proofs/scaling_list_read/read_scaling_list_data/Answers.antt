@@ -1,5 +1,4 @@
 -- `read_scaling_list_data`: the record is what is kept of the ids before `id`.
-use native.Mathlib.Omega.{arith}
 use Rattle.aps.proofs.ReaderLaws.{fills-exit}
 use Rattle.aps.proofs.ScalingReads.{storing-start, storing-blank, storing-more, storing-refused, storing-done}
 use Rattle.aps.proofs.scaling_list_read.read_scaling_list_data.Goals as goal

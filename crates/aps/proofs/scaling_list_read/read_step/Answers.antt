@@ -1,7 +1,7 @@
 -- `read_step`: a skipped step repeats the sum; another is added to it, and a sum of two small numbers fits.
 use borrow.Author.Rules.{rules}
 use mathlib.Core.Path.{◌≡◌, sym, ap, ◌∙◌}
-use mathlib.Core.Bool.{Bool, not}
+use mathlib.Core.Bool.{not}
 use native.Mathlib.Omega.{arith}
 use lib.IntN.{◌+ℤ◌}
 use mir.Syntax.{w32}
