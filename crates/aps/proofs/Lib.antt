@@ -32,7 +32,6 @@ pub mod AlternativeSteps
 pub mod LmcsSteps
 pub mod ScalingKeep
 pub mod ScalingSteps
-pub mod ScalingReads
 pub mod RbspSteps
 pub mod UnitSteps
 pub mod WriteSteps

@@ -7,10 +7,10 @@ use mir.Val.{to_z, of_z}
 use mir.Facts.{to_z-of_z}
 use Rattle.aps.proofs.ReaderLaws.{fills-exit}
 use Rattle.aps.proofs.ScalingLaws.{entries-le}
-use Rattle.aps.proofs.ScalingReads.{summing-start, summing-more, summing-refused, summing-done}
+use Rattle.aps.proofs.ScalingSteps.{summing-start, summing-more, summing-refused, summing-done}
 use Rattle.std.proofs.lemmas.Int.{to_z-of_z as to_z-of_z'}
-use Rattle.aps.proofs.scaling_list_read.read_sums.Goals as goal
-use Rattle.aps.proofs.scaling_list_read.read_sums.Goals.{Start}
+use Rattle.aps.proofs.scaling_list_data.read_sums.Goals as goal
+use Rattle.aps.proofs.scaling_list_data.read_sums.Goals.{Start}
 
 dc-is : (c : Start) → to_z w32 (of_z w32 c.args.dc) ≡ c.args.dc
 dc-is c = to_z-of_z c.ranges.dc

@@ -13,8 +13,8 @@ use Rattle.aps.proofs.ReaderLaws.{reads-exit, reads-via, reads-sent, reads-unsen
 use Rattle.aps.proofs.ScalingSteps.{position, Small, se8-small}
 use Rattle.aps.proofs.SignedLaws.{abs-fits, add-abs}
 use Rattle.std.proofs.lemmas.Int.{to_z-of_z as to_z-of_z'}
-use Rattle.aps.proofs.scaling_list_read.read_step.Goals as goal
-use Rattle.aps.proofs.scaling_list_read.read_step.Goals.{In_ok-delta}
+use Rattle.aps.proofs.scaling_list_data.read_step.Goals as goal
+use Rattle.aps.proofs.scaling_list_data.read_step.Goals.{In_ok-delta}
 
 delta-is : (c : In_ok-delta) → to_z w32 (of_z w32 c.in_ok-delta.delta) ≡ c.in_ok-delta.delta
 delta-is c = search (rules, to_z-of_z')
