@@ -8,7 +8,9 @@ ghost use Rattle.aps.specs.Reading.{outcome_read, set_given, head_of};
 ghost use Rattle.aps.specs.Reads.{given};
 
 use crate::alf_set::alf_head;
-use crate::aps::{ApsHead, ApsKind, ApsOutcome, HeadReading, Lmcs, Opening, open_rbsp, refuse_head};
+use crate::aps::{
+    ApsHead, ApsKind, ApsOutcome, HeadReading, Lmcs, Opening, open_rbsp, refuse_head,
+};
 use crate::ending::close_rbsp;
 use crate::lmcs::{VvcLmcsData, parse_lmcs_data, zero_lmcs};
 use crate::reader::Reader;
