@@ -1,10 +1,8 @@
 -- What an answer that was taken apart says of the definition it equals.
 use mathlib.Core.Path.{◌≡◌, refl, sym, ap, ◌∙◌}
-use mathlib.Core.Bool.{Bool, false}
+use mathlib.Core.Bool.{Bool}
 use mathlib.Core.List.{List}
 use Prim.Native.Nat.{ℕ}
-use lib.IntN.{ℤ, pos}
-use lib.ListN.{replicate}
 use Rattle.bitstream.specs.Outcome.{Outcome, value, refused, number}
 use Rattle.bitstream.specs.declared.Refusal.{Refusal}
 use Rattle.aps.specs.declared.alf.VvcAlfData.{VvcAlfData}
@@ -13,13 +11,11 @@ use Rattle.aps.specs.declared.scaling_list.VvcScalingListData.{VvcScalingListDat
 use Rattle.aps.specs.declared.aps.ApsKind.{ApsKind}
 use Rattle.aps.specs.declared.aps.ApsHead.{ApsHead}
 use Rattle.aps.specs.declared.aps.HeadReading.{HeadReading}
-use Rattle.aps.specs.declared.lmcs_set.LmcsAnswer.{LmcsAnswer}
 use Rattle.aps.specs.declared.aps.VvcAps.{VvcAps}
 use Rattle.aps.specs.declared.aps.ApsReading.{ApsReading}
 use Rattle.aps.specs.declared.aps.ApsOutcome.{ApsOutcome}
 use Rattle.aps.specs.declared.aps.ApsOutcome.TheVariants as Aps
-use Rattle.aps.specs.LmcsSyntax.{to_lmcs}
-use Rattle.aps.specs.Inner.{set_of, with_extension, no_lmcs, assembled, Assembles, AnswersLmcs, AnswersScaling}
+use Rattle.aps.specs.Inner.{set_of, with_extension, assembled, Assembles}
 use Rattle.aps.specs.ApsSyntax.{empty_set, zero_alf, zero_lmcs, zero_scaling}
 use Rattle.aps.specs.Rbsp.{read_rbsp}
 use Rattle.aps.specs.Reading.{outcome_read, outcome_aps, set_given, head_of}
@@ -47,21 +43,6 @@ pub ended-parts : {kind : ApsKind} {id : ℕ} {chroma x : Bool} {d : VvcAlfData}
     → (a : VvcAps) → a ≡ assembled h d l c → (outcome_read (Aps.Read q) a ≡ o) × (a ≡ set_given o)
 unfolding with_extension
 ended-parts e h f a g = rw (g, f) (e, ap set_given e)
-
--- the same by kind, where arrays of zeros make the records
-module _ (s : List ℕ) (why : Refusal) (f : read_rbsp s ≡ refused (number why)) where
-  pub refused-lmcs : (r : LmcsAnswer) {abs : List ℕ} {sign : List Bool}
-      → ((r.outcome ≡ Aps.Refused why) × (r.head ≡ head_of empty_set) × (r.read ≡ no_lmcs why)) × ((abs ≡ replicate 16 0) × (sign ≡ replicate 16 false))
-      → AnswersLmcs r s abs sign
-  unfolding zero_lmcs to_lmcs
-  refused-lmcs r ((e, h, l), (m, b)) = refused-parts why (e, h, refl, rw (l, m, b), refl) f
-
-  pub refused-scaling : (r : HeadReading) {copy pred : List Bool} {delta : List ℕ} {dc list : List ℤ}
-      → ((r.outcome ≡ Aps.Refused why) × (r.head ≡ head_of empty_set))
-      × ((copy ≡ replicate 28 false) × (pred ≡ replicate 28 false) × (delta ≡ replicate 28 0) × (dc ≡ replicate 14 (pos 0)) × (list ≡ replicate 1792 (pos 0)))
-      → AnswersScaling r s copy pred delta dc list
-  unfolding zero_scaling
-  refused-scaling r ((e, h), (y, p, d, t, l)) = refused-parts why (e, h, refl, refl, rw (y, p, d, t, l)) f
 
 -- what an answer says of each part
 module _ (o : ApsOutcome) (h : ApsHead) (d : VvcAlfData) (l : VvcLmcsData) (c : VvcScalingListData) (s : List ℕ) (e : Assembles o h d l c s) where

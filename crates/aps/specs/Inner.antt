@@ -1,43 +1,30 @@
 -- For the proofs' sake: what the inner functions promise each other on the way. No public contract says anything of this file.
-use Rattle.std.specs.Prelude.{◌≡◌, Bool, true, false, cond, not, List, [], ◌∷◌, ℕ, ◌+◌, ◌*◌, ◌/◌, ◌%◌, ◌^◌, ◌≤◌, ◌<◌, Result, Ok, Err, eqb, ltb, ℤ, length, take}
-use Rattle.std.proofs.lemmas.List.Edits.{sets}
+use Rattle.std.specs.Prelude.{◌≡◌, Bool, true, false, cond, not, List, [], ◌∷◌, ℕ, ◌+◌, ◌*◌, ◌/◌, ◌%◌, ◌^◌, ◌≤◌, ◌<◌, Result, Ok, Err, eqb, ltb, length, take}
 use Rattle.bitstream.specs.Outcome.{Outcome, value, refused, number, ◌then◌}
 use Rattle.bitstream.specs.Bits.{field_at, put_bits}
 use Rattle.bitstream.specs.Fields.{lacks, read_trailing}
-use Rattle.bitstream.specs.Windows.{IsWindow}
 use Rattle.bitstream.specs.declared.Refusal.{Refusal}
 use Rattle.bitstream.specs.declared.Refusal.TheVariants.{InvalidData, Unsupported}
 use Rattle.bitstream.specs.declared.nal.Size.{Size}
 use Rattle.aps.specs.Codec.{Codec}
 use Rattle.aps.specs.Elements.{flag}
-use Rattle.aps.specs.LmcsSyntax.{LmcsHead, lmcs_codewords, lmcs_chroma, to_lmcs}
-use Rattle.aps.specs.ScalingSyntax.{Entry}
 use Rattle.aps.specs.ApsSyntax.{number_of, zero_alf, zero_lmcs, zero_scaling}
 use Rattle.aps.specs.Rbsp.{closed, read_rbsp, parse_aps_rbsp}
 use Rattle.aps.specs.Reading.{outcome_read, set_given, head_of}
 use Rattle.aps.specs.declared.fields.Stop.{Stop}
-use Rattle.aps.specs.declared.fields.SignedField.{SignedField}
-use Rattle.aps.specs.declared.fields.SignedField.TheVariants as Signed
-use Rattle.aps.specs.declared.windows.Window.{Window}
-use Rattle.aps.specs.declared.scaling_list_data.HeldSum.{HeldSum}
-use Rattle.aps.specs.declared.scaling_list_data.HeldSum.TheVariants as Sum
 use Rattle.aps.specs.declared.alf.VvcAlfLuma.{VvcAlfLuma}
 use Rattle.aps.specs.declared.alf.VvcAlfChroma.{VvcAlfChroma}
 use Rattle.aps.specs.declared.alf.VvcAlfCcFilters.{VvcAlfCcFilters}
 use Rattle.aps.specs.declared.alf.VvcAlfData.{VvcAlfData}
 use Rattle.aps.specs.AlfSyntax.{to_luma, to_cc}
 use Rattle.aps.specs.declared.lmcs.VvcLmcsData.{VvcLmcsData}
-use Rattle.aps.specs.declared.lmcs.LmcsRead.{LmcsRead}
 use Rattle.aps.specs.declared.scaling_list.VvcScalingListData.{VvcScalingListData}
-use Rattle.aps.specs.declared.scaling_list_data.CoefficientsRead.{CoefficientsRead}
-use Rattle.aps.specs.declared.scaling_list_data.IdRead.{IdRead}
 use Rattle.aps.specs.declared.aps.ApsOutcome.{ApsOutcome}
 use Rattle.aps.specs.declared.aps.ApsKind.{ApsKind}
 use Rattle.aps.specs.declared.aps.ApsHead.{ApsHead}
 use Rattle.aps.specs.declared.aps.HeadReading.{HeadReading}
 use Rattle.aps.specs.declared.reader.Reader.{Reader}
 use Rattle.aps.specs.declared.alf_set.AlfReading.{AlfReading}
-use Rattle.aps.specs.declared.lmcs_set.LmcsAnswer.{LmcsAnswer}
 use Rattle.aps.specs.declared.lmcs_set.LmcsReading.{LmcsReading}
 use Rattle.aps.specs.declared.scaling_set.ScalingReading.{ScalingReading}
 use Rattle.aps.specs.declared.aps.VvcAps.{VvcAps}
@@ -66,28 +53,9 @@ Spans from to n = (m : ℕ) → StopsBy from m → StopsBy to (m + n)
 
 -- ---- reading
 
-abbrev pub outcome_signed : SignedField → Outcome (ℕ × Bool)
-outcome_signed (Signed.Value m s q) = value (m, s) q
-outcome_signed (Signed.Refused e) = refused (number e)
-
--- ---- a window held across fields
-
--- the window is one of the bytes s at its place
-abbrev pub Known : List ℕ → Window → Type 0
-Known s w = IsWindow s w.at w.left w.bits
-
 -- a value and the bit after it; 1 where that passes the input's end
 abbrev pub ends_at : {A : Type 0} → List ℕ → ℕ → A → Outcome A
 ends_at s q a = cond (ltb (length s * 8) q) (refused 1) (value a q)
-
-abbrev pub outcome_sum : HeldSum → Outcome ℤ
-outcome_sum (Sum.Value v w) = value v w.at
-outcome_sum (Sum.Refused e) = refused (number e)
-
--- the window after a sum
-abbrev pub KnownSum : List ℕ → HeldSum → Type 0
-KnownSum s (Sum.Value v w) = Known s w
-KnownSum s (Sum.Refused e) = Unit {0}
 
 -- six fields of two bits out of twelve bits
 abbrev pub six_of : ℕ → List ℕ
@@ -145,17 +113,6 @@ chroma_of clip count-1 abs sign clips =
 abbrev pub cc_of : ℕ → List ℕ → List Bool → VvcAlfCcFilters
 cc_of count-1 abs sign = to_cc (count-1, (abs, sign))
 
-abbrev pub scaling_of : List Bool → List Bool → List ℕ → List ℤ → List ℤ → VvcScalingListData
-scaling_of copy pred delta dc list =
-    record { copy_mode_flag = copy; pred_mode_flag = pred; pred_id_delta = delta; dc_coef = dc; scaling_list = list }
-
-abbrev pub lmcs_of : LmcsRead → List ℕ → List Bool → VvcLmcsData
-lmcs_of r abs sign = to_lmcs ((r.min, (r.max, r.prec)), ((abs, sign), (r.crs_abs, r.crs_sign)))
-
--- no curve, for this reason
-abbrev pub no_lmcs : Refusal → LmcsRead
-no_lmcs why = record { stop = Stop.Refused why; min = 0; max = 0; prec = 0; crs_abs = 0; crs_sign = false }
-
 -- what was read is the answer to s
 abbrev pub Answers : ApsOutcome → VvcAps → List ℕ → Type 0
 Answers o a s = (outcome_read o a ≡ read_rbsp s) × (a ≡ set_given (read_rbsp s))
@@ -176,13 +133,6 @@ assembled h d l s =
 -- the same of a set of which these are the parts
 abbrev pub Assembles : ApsOutcome → ApsHead → VvcAlfData → VvcLmcsData → VvcScalingListData → List ℕ → Type 0
 Assembles o h d l c s = (a : VvcAps) → a ≡ assembled h d l c → Answers o a s
-
--- the answers to s for two kinds, with the arrays that they fill
-abbrev pub AnswersLmcs : LmcsAnswer → List ℕ → List ℕ → List Bool → Type 0
-AnswersLmcs r s abs sign = Assembles r.outcome r.head zero_alf (lmcs_of r.read abs sign) zero_scaling s
-
-abbrev pub AnswersScaling : HeadReading → List ℕ → List Bool → List Bool → List ℕ → List ℤ → List ℤ → Type 0
-AnswersScaling r s copy pred delta dc list = Assembles r.outcome r.head zero_alf zero_lmcs (scaling_of copy pred delta dc list) s
 
 -- the readings of one kind alone
 abbrev pub ReadsAlf : AlfReading → List ℕ → Type 0
@@ -211,24 +161,6 @@ Opens s (Err why) = parse_aps_rbsp s ≡ refused (number why)
 abbrev pub Names : ℕ → Result ApsKind Refusal → Type 0
 Names n (Ok kind) = n ≡ number_of kind
 Names n (Err why) = (2 < n) × (why ≡ Unsupported)
-
--- lmcs_data( ) after its head
-unfoldable pub lmcs_rest : Bool → LmcsHead → List ℕ → ℕ → Outcome VvcLmcsData
-lmcs_rest chroma h s p = (lmcs_codewords h).read s p then λ cw q. (lmcs_chroma chroma).read s q then λ crs r. value (to_lmcs (h, (cw, crs))) r
-
--- the list of an id stored at 64 * id of the flat array l
-abbrev pub stored_list : List ℤ → ℕ → ℤ × List ℤ → ℤ × List ℤ
-stored_list l id x = (x.0, sets l (64 * id) x.1)
-
-abbrev pub stored : List ℤ → ℕ → Entry → Entry
-stored l id e = (e.0, (e.1.0, (e.1.1.0, stored_list l id e.1.1.1)))
-
--- what is read of a scaling list, which is stored in the flat array l
-abbrev pub outcome_coefficients : CoefficientsRead → List ℤ → Outcome (ℤ × List ℤ)
-outcome_coefficients r l = outcome_stop {A = ℤ × List ℤ} r.stop (r.dc, l)
-
-abbrev pub outcome_id : IdRead → List ℤ → Outcome Entry
-outcome_id r l = outcome_stop {A = Entry} r.stop (r.copy, (r.pred, (r.delta, (r.dc, l))))
 
 -- the RBSP of the unit that o is the answer to stands at the start of the work buffer, or there is none
 abbrev pub Unwrapped : Size → Outcome VvcAps → List ℕ → Type 0

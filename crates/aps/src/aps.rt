@@ -263,16 +263,13 @@ pub fn parse_aps_rbsp(bytes: &[u8]) -> ApsReading
     ensures answer { outcome_aps result ≡ parse_aps_rbsp bytes.now }
     ensures set { result.set ≡ set_given (parse_aps_rbsp bytes.now) }
 {
-    let (reader, head) = match open_rbsp(bytes) {
-        Ok(opened) => opened,
-        Err(why) => return refuse(why),
-    };
-    let id = head.aps_adaptation_parameter_set_id;
-    let chroma = head.aps_chroma_present_flag;
-    match head.kind {
-        ApsKind::Alf => with_alf(alf_alone(reader, head)),
-        ApsKind::Lmcs => with_lmcs(lmcs_alone(bytes, id, chroma)),
-        ApsKind::Scaling => with_scaling(scaling_alone(bytes, id, chroma)),
+    match open_rbsp(bytes) {
+        Ok((reader, head)) => match head.kind {
+            ApsKind::Alf => with_alf(alf_alone(reader, head)),
+            ApsKind::Lmcs => with_lmcs(lmcs_alone(reader, head)),
+            ApsKind::Scaling => with_scaling(scaling_alone(reader, head)),
+        },
+        Err(why) => refuse(why),
     }
 }
 
@@ -281,15 +278,12 @@ pub fn parse_aps_head(bytes: &[u8]) -> HeadReading
     ensures answer { outcome_read result.outcome (set_given (parse_aps_rbsp bytes.now)) ≡ parse_aps_rbsp bytes.now }
     ensures head { result.head ≡ head_of (set_given (parse_aps_rbsp bytes.now)) }
 {
-    let (reader, head) = match open_rbsp(bytes) {
-        Ok(opened) => opened,
-        Err(why) => return refuse_head(why),
-    };
-    let id = head.aps_adaptation_parameter_set_id;
-    let chroma = head.aps_chroma_present_flag;
-    match head.kind {
-        ApsKind::Alf => alf_head(reader, head),
-        ApsKind::Lmcs => lmcs_head(bytes, id, chroma),
-        ApsKind::Scaling => scaling_head(bytes, id, chroma),
+    match open_rbsp(bytes) {
+        Ok((reader, head)) => match head.kind {
+            ApsKind::Alf => alf_head(reader, head),
+            ApsKind::Lmcs => lmcs_head(reader, head),
+            ApsKind::Scaling => scaling_head(reader, head),
+        },
+        Err(why) => refuse_head(why),
     }
 }

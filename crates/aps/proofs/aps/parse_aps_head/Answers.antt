@@ -11,7 +11,7 @@ returns-in-Alf c =
     let r = same_head c.alf_head.result c.alf_head.ensures.answer (in-limits _ o.0 ∙ ap read_rbsp (sym o.1)) in record { answer = r.0; head = r.1 }
 
 pub returns-in-Lmcs : goal.returns-in-Lmcs
-returns-in-Lmcs c = let r = same_head c.lmcs_head.result c.lmcs_head.ensures.answer (in-limits _ c.in-Ok.ensures.0) in record { answer = r.0; head = r.1 }
+returns-in-Lmcs c = let r = same_head c.lmcs_head.result c.lmcs_head.ensures.answer (in-limits _ c.in-Ok.ensures.0 ∙ ap read_rbsp (sym c.in-Ok.ensures.1)) in record { answer = r.0; head = r.1 }
 
 pub returns-in-Scaling : goal.returns-in-Scaling
-returns-in-Scaling c = let r = same_head c.scaling_head.result c.scaling_head.ensures.answer (in-limits _ c.in-Ok.ensures.0) in record { answer = r.0; head = r.1 }
+returns-in-Scaling c = let r = same_head c.scaling_head.result c.scaling_head.ensures.answer (in-limits _ c.in-Ok.ensures.0 ∙ ap read_rbsp (sym c.in-Ok.ensures.1)) in record { answer = r.0; head = r.1 }

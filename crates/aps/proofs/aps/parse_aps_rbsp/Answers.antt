@@ -13,9 +13,9 @@ returns-in-Alf c =
 pub returns-in-Lmcs : goal.returns-in-Lmcs
 returns-in-Lmcs c =
     let o = c.in-Ok.ensures in
-    let r = assembled-answer c.with_lmcs.result c.with_lmcs.ensures _ c.lmcs_alone.ensures (in-limits _ o.0) in record { answer = r.0; set = r.1 }
+    let r = assembled-answer c.with_lmcs.result c.with_lmcs.ensures _ c.lmcs_alone.ensures (in-limits _ o.0 ∙ ap read_rbsp (sym o.1)) in record { answer = r.0; set = r.1 }
 
 pub returns-in-Scaling : goal.returns-in-Scaling
 returns-in-Scaling c =
     let o = c.in-Ok.ensures in
-    let r = assembled-answer c.with_scaling.result c.with_scaling.ensures _ c.scaling_alone.ensures (in-limits _ o.0) in record { answer = r.0; set = r.1 }
+    let r = assembled-answer c.with_scaling.result c.with_scaling.ensures _ c.scaling_alone.ensures (in-limits _ o.0 ∙ ap read_rbsp (sym o.1)) in record { answer = r.0; set = r.1 }
