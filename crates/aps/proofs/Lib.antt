@@ -14,7 +14,6 @@ pub mod RbspLaws
 pub mod LocalLaws
 pub mod Answers
 pub mod Below
-pub mod Bounds
 pub mod Gives
 pub mod RowLaws
 pub mod SignedLaws

@@ -23,7 +23,6 @@ mod scaling_list_data;
 mod scaling_list_write;
 pub mod scaling_set;
 pub mod unit;
-mod windows;
 pub mod write;
 mod writer;
 mod zeros;
