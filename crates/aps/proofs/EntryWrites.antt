@@ -5,7 +5,7 @@ use mathlib.Core.List.{List, [], ◌∷◌}
 use Prim.Native.Nat.{ℕ, zero, suc, ◌+◌, ◌-◌, ◌≤◌, ◌<◌}
 use native.Mathlib.Omega.{arith}
 use borrow.Author.Tests.{lt-ltb, le-ltb, eq-eqb}
-use lib.Dec.{ltb, eqb}
+use lib.Dec.{ltb}
 use lib.ListN.{length, get_or, take, drop, length-drop}
 use lib.Seq.{drop-cons}
 use Rattle.std.proofs.Common.{Result, Ok, Err}
@@ -13,7 +13,7 @@ use Rattle.std.proofs.lemmas.List.{get_or-take, length-take, take_all}
 use Rattle.bitstream.specs.Outcome.{value, refused, ◌then◌}
 use Rattle.bitstream.specs.declared.Refusal.{Refusal}
 use Rattle.aps.specs.Codec.{Codec, Inferred, when, each_from, each}
-use Rattle.aps.specs.Elements.{no_pair, every, zipped, apart, rows_of}
+use Rattle.aps.specs.Elements.{no_pair, every, zipped, apart}
 use Rattle.aps.specs.Writes.{writes, written, Wrote, unsent}
 use Rattle.aps.specs.declared.writer.Writer.{Writer}
 use Rattle.aps.proofs.EachLaws.{each_same}
