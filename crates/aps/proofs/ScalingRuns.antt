@@ -16,7 +16,7 @@ use Rattle.bitstream.specs.Outcome.{value, ◌then◌}
 use Rattle.bitstream.specs.Fields.{ue_zeros}
 use Rattle.aps.specs.Codec.{◌▷◌, when}
 use Rattle.aps.specs.Elements.{flag, no_flag, no_pair}
-use Rattle.aps.specs.ScalingSyntax.{skipped, entries, max_id_delta, id_coded, eq_z, just, cons, uncons, some_left, step, step_at, sums, delta_at, coefficients, no_entries, entry_syntax, no_entry, id_at, scaling_syntax, looked, look}
+use Rattle.aps.specs.ScalingSyntax.{skipped, entries, max_id_delta, id_coded, eq_z, just, cons, uncons, some_left, step, step_at, sums, delta_at, coefficients, no_entries, entry_syntax, no_entry, id_at, scaling_syntax, looked, looked_at, look}
 use Rattle.aps.specs.Writes.{writes}
 use Rattle.aps.specs.Inner.{after, Spans, Wrote, unsent}
 use Rattle.aps.specs.declared.fields.Stop.{Stop}
@@ -24,7 +24,7 @@ use Rattle.aps.specs.declared.scaling_list.VvcScalingListData.{VvcScalingListDat
 use Rattle.aps.proofs.ElementLaws.{zeros-mono}
 use Rattle.aps.proofs.ScalingLaws.{entries-le, no_entry-is}
 use Rattle.aps.proofs.StopLaws.{after_same}
-use Rattle.aps.proofs.KeepLaws.{looked_at, look_at, length-look}
+use Rattle.aps.proofs.KeepLaws.{look_at, length-look}
 use Rattle.aps.proofs.ScalingSteps.{se8}
 use Rattle.aps.proofs.WriterLaws.{writes-via, writes-▷, writes-nil}
 use Rattle.aps.proofs.WriteSteps.{after_then, spans_step, spans-more, wrote-more, wrote-when, wrote_none, wrote-via, wrote-bad, wrote-▷, Writing, writing_start, writing_more, stop-value}
