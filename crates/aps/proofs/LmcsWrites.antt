@@ -1,8 +1,7 @@
 -- The parts of lmcs_data( ) written one after another.
 use borrow.Author.Tests.{le-leb}
-use mathlib.Core.Path.{◌≡◌, refl, sym, ◌∙◌}
-use mathlib.Core.Bool.{Bool, true, false, ◌&&◌, and-false}
-use mathlib.Core.List.{List}
+use mathlib.Core.Path.{◌≡◌, ◌∙◌}
+use mathlib.Core.Bool.{false, and-false}
 use Prim.Native.Nat.{ℕ, ◌≤◌}
 use lib.Dec.{leb}
 use Rattle.std.proofs.Common.{Result}

@@ -12,7 +12,7 @@ use Rattle.std.proofs.lemmas.Int.{to_z-of_z as to_z-of_z'}
 use Rattle.aps.specs.ScalingSyntax.{entries}
 use Rattle.aps.proofs.ScalingLaws.{entries-le}
 use Rattle.aps.proofs.WriterLaws.{wrote-exit}
-use Rattle.aps.proofs.ScalingWrites.{summing_start, summing_more, summing-refused, summing-done}
+use Rattle.aps.proofs.ScalingWrites.{summing_more, summing-refused, summing-done}
 use Rattle.aps.proofs.scaling_list_write.put_sums.Goals as goal
 
 pub put_sum-requires : goal.put_sum-requires
