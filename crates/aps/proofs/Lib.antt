@@ -41,8 +41,10 @@ pub mod PutLaws
 pub mod ArrayWrites
 pub mod AlfFilters
 pub mod AlfWrites
+pub mod LmcsRuns
 pub mod LmcsWrites
 pub mod IntegerLaws
+pub mod ScalingRuns
 pub mod ScalingWrites
 pub mod RbspWrites
 pub mod UnitWrites

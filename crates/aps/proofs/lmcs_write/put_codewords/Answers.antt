@@ -12,7 +12,7 @@ use Rattle.aps.proofs.PairLaws.{zipped-length}
 use Rattle.aps.proofs.WriteSteps.{spans_step, spans-more, writing_start, writing_more}
 use Rattle.aps.proofs.SentWrites.{spans-here}
 use Rattle.aps.proofs.ArrayWrites.{zipped-step, wrote-each}
-use Rattle.aps.proofs.LmcsWrites.{codewords-wrote}
+use Rattle.aps.proofs.LmcsRuns.{codewords-wrote}
 use Rattle.aps.proofs.lmcs_write.put_codewords.Goals as goal
 
 pub loop-i-init : goal.loop-i-init

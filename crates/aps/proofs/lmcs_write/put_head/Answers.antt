@@ -4,7 +4,7 @@ use native.Mathlib.Omega.{arith}
 use lib.Count.{count_leading_zeros}
 use Rattle.bitstream.specs.Fields.{ue_zeros}
 use Rattle.aps.proofs.StopLaws.{stops-more}
-use Rattle.aps.proofs.LmcsWrites.{head-wrote}
+use Rattle.aps.proofs.LmcsRuns.{head-wrote}
 use Rattle.aps.proofs.lmcs_write.put_head.Goals as goal
 
 pub put_ue_to-a-requires : goal.put_ue_to-a-requires

@@ -3,7 +3,7 @@ use Prim.Native.Nat.{◌+◌}
 use Rattle.aps.specs.Codec.{u}
 use Rattle.aps.specs.Elements.{signed, no_signed}
 use Rattle.aps.proofs.SentWrites.{when-sent}
-use Rattle.aps.proofs.LmcsWrites.{signed-none}
+use Rattle.aps.proofs.LmcsRuns.{signed-none}
 use Rattle.aps.proofs.lmcs_write.put_signed_if.Goals as goal
 
 pub returns-then-sent : goal.returns-then-sent

@@ -6,7 +6,7 @@ use lib.ListN.{length}
 use Rattle.aps.specs.LmcsSyntax.{lmcs}
 use Rattle.aps.proofs.StopLaws.{stops-more}
 use Rattle.aps.proofs.WriteSteps.{wrote-bad}
-use Rattle.aps.proofs.LmcsWrites.{lmcs-out-of-range, lmcs-wrote}
+use Rattle.aps.proofs.LmcsRuns.{lmcs-out-of-range, lmcs-wrote}
 use Rattle.aps.proofs.lmcs_write.write_lmcs_data.Goals as goal
 
 pub returns-then-not-in_range : goal.returns-then-not-in_range

@@ -7,7 +7,7 @@ use Rattle.aps.specs.Elements.{ue_to, no_number}
 use Rattle.aps.specs.ScalingSyntax.{max_id_delta}
 use Rattle.aps.proofs.WriteSteps.{wrote-more}
 use Rattle.aps.proofs.SentWrites.{when-sent, when-unsent}
-use Rattle.aps.proofs.ScalingWrites.{max_id_delta-word, delta-bits}
+use Rattle.aps.proofs.ScalingRuns.{max_id_delta-word, delta-bits}
 use Rattle.aps.proofs.scaling_list_write.put_delta.Goals as goal
 
 pub overflow_cast-max_id_delta : goal.overflow_cast-max_id_delta

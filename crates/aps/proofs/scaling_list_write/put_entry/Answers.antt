@@ -10,7 +10,7 @@ use mir.Facts.{to_z-of_z}
 use Rattle.aps.specs.Inner.{StopsBy}
 use Rattle.aps.proofs.StopLaws.{stops-more}
 use Rattle.aps.proofs.SentWrites.{unsent-stops}
-use Rattle.aps.proofs.ScalingWrites.{entry-copied, entry_listed}
+use Rattle.aps.proofs.ScalingRuns.{entry-copied, entry_listed}
 use Rattle.aps.proofs.scaling_list_write.put_entry.Goals as goal
 use Rattle.aps.proofs.scaling_list_write.put_entry.Goals.{After-put_flag-a}
 

@@ -3,7 +3,7 @@ use mathlib.Core.Path.{sym, ◌∙◌}
 use Prim.Native.Nat.{◌-◌, ◌*◌}
 use lib.IntN.{pos}
 use lib.ListN.{get_or, take, drop}
-use Rattle.aps.proofs.ScalingWrites.{id-sent, id-unsent}
+use Rattle.aps.proofs.ScalingRuns.{id-sent, id-unsent}
 use Rattle.aps.proofs.scaling_list_write.put_id.Goals as goal
 
 pub returns-then-scaling_id_coded : goal.returns-then-scaling_id_coded

@@ -5,7 +5,7 @@ use mir.Facts.{to_z-of_z}
 use Rattle.aps.specs.ScalingSyntax.{entries, dc_at, sums, coefficients}
 use Rattle.aps.proofs.StopLaws.{stops-more}
 use Rattle.aps.proofs.WriteSteps.{wrote-▷}
-use Rattle.aps.proofs.ScalingWrites.{row}
+use Rattle.aps.proofs.ScalingRuns.{row}
 use Rattle.aps.proofs.scaling_list_write.put_list.Goals as goal
 
 pub put_dc-at-requires : goal.put_dc-at-requires

@@ -11,7 +11,7 @@ use Rattle.aps.proofs.FieldWrites.{se8-low, se8-high}
 use Rattle.aps.proofs.StopLaws.{stops-more}
 use Rattle.aps.proofs.ScalingSteps.{position}
 use Rattle.aps.proofs.IntegerLaws.{same-i32, difference-fits, difference-is, small-fits}
-use Rattle.aps.proofs.ScalingWrites.{step-repeated, step-sent, step-bad}
+use Rattle.aps.proofs.ScalingRuns.{step-repeated, step-sent, step-bad}
 use Rattle.aps.proofs.scaling_list_write.put_step.Goals as goal
 use Rattle.aps.proofs.scaling_list_write.put_step.Goals.{Else-step-gt127}
 

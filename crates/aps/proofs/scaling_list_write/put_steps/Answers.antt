@@ -11,7 +11,7 @@ use mir.Facts.{to_z-of_z}
 use Rattle.aps.specs.ScalingSyntax.{entries}
 use Rattle.aps.proofs.StopLaws.{stops-more}
 use Rattle.aps.proofs.ScalingLaws.{entries-le}
-use Rattle.aps.proofs.ScalingWrites.{stepped_start, stepped-more, stepped-done, length-row, row_cons}
+use Rattle.aps.proofs.ScalingRuns.{stepped_start, stepped-more, stepped-done, length-row, row_cons}
 use Rattle.std.proofs.lemmas.Int.{to_z-of_z as to_z-of_z'}
 use Rattle.aps.proofs.scaling_list_write.put_steps.Goals as goal
 use Rattle.aps.proofs.scaling_list_write.put_steps.Goals.{After-matrix_entries-n}

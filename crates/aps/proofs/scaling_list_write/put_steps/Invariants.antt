@@ -2,7 +2,7 @@
 use mathlib.Core.Path.{◌≡◌}
 use Prim.Native.Nat.{◌-◌}
 use lib.ListN.{length}
-use Rattle.aps.proofs.ScalingWrites.{Stepped, row}
+use Rattle.aps.proofs.ScalingRuns.{Stepped, row}
 use Rattle.aps.proofs.scaling_list_write.put_steps.Given as goal
 
 abbrev pub invariant-loop-i : goal.invariant-loop-i

@@ -5,7 +5,7 @@ use Prim.Native.Nat.{◌+◌, ◌*◌}
 use native.Mathlib.Omega.{arith}
 use lib.ListN.{length}
 use Rattle.aps.proofs.StopLaws.{stops-more}
-use Rattle.aps.proofs.ScalingWrites.{listed_start, listed_more, listed-done}
+use Rattle.aps.proofs.ScalingRuns.{listed_start, listed_more, listed-done}
 use Rattle.aps.proofs.scaling_list_write.write_scaling_list_data.Goals as goal
 
 pub loop-id-init : goal.loop-id-init

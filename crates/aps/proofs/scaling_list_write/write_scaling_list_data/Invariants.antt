@@ -2,7 +2,7 @@
 use mathlib.Core.Path.{◌≡◌}
 use Prim.Native.Nat.{◌-◌}
 use lib.ListN.{length}
-use Rattle.aps.proofs.ScalingWrites.{Listed}
+use Rattle.aps.proofs.ScalingRuns.{Listed}
 use Rattle.aps.proofs.scaling_list_write.write_scaling_list_data.Given as goal
 
 abbrev pub invariant-loop-id : goal.invariant-loop-id

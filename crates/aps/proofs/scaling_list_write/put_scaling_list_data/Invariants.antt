@@ -1,0 +1,12 @@
+-- `put_scaling_list_data`: the ids before this one are written.
+use Prim.Native.Nat.{◌+◌, ◌*◌, ◌≤◌}
+use Rattle.aps.specs.ScalingSyntax.{id_at, look}
+use Rattle.aps.proofs.WriterLaws.{Writing}
+use Rattle.aps.proofs.scaling_list_write.put_scaling_list_data.Given as goal
+
+abbrev pub invariant-loop-id : goal.invariant-loop-id
+invariant-loop-id l =
+    record {
+      within : l.writer.at ≤ l.initial.writer.at + 1116 * l.id;
+      wrote : Writing (id_at l.chroma) 28 (look l.chroma l.lists) l.initial.writer l.id l.writer;
+    }
