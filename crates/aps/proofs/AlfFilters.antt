@@ -21,7 +21,7 @@ use Rattle.aps.proofs.CodecLaws.{and_both}
 use Rattle.aps.proofs.AlfSteps.{index, row-test, sent-test}
 use Rattle.aps.proofs.PairLaws.{zipped-length}
 use Rattle.aps.proofs.WriterLaws.{wrote-when, wrote-via}
-use Rattle.aps.proofs.ArrayWrites.{zipped-drop, zipped-take}
+use Rattle.aps.proofs.EntryWrites.{zipped-drop, zipped-take}
 use Rattle.aps.proofs.EntryWrites.{first_sent, sent-by, apart-wrote}
 
 module _ {before after : Writer} {r : Result (Unit {0}) Refusal} where

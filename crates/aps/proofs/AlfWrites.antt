@@ -12,7 +12,7 @@ use Rattle.bitstream.specs.Fields.{ue_zeros}
 use Rattle.aps.specs.Elements.{no_flag, no_number, every, zipped}
 use Rattle.aps.specs.AlfSyntax.{no_chroma}
 use Rattle.aps.proofs.PairLaws.{zipped-length}
-use Rattle.aps.proofs.ArrayWrites.{zipped-every}
+use Rattle.aps.proofs.EntryWrites.{zipped-every}
 
 -- nothing is sent of the chroma filters where each of their values is 0
 pub no_chroma-tests : (clip : Bool) (n : ℕ) (a : List ℕ) (b : List Bool) (k : List ℕ) → length a ≡ 48 → length b ≡ 48 → length k ≡ 48

@@ -35,16 +35,10 @@ pub mod UnitSteps
 pub mod WriterLaws
 pub mod FieldWrites
 pub mod EntryWrites
-pub mod WriteSteps
-pub mod SentWrites
-pub mod PutLaws
-pub mod ArrayWrites
 pub mod AlfFilters
 pub mod AlfWrites
-pub mod LmcsRuns
 pub mod LmcsWrites
 pub mod IntegerLaws
-pub mod ScalingRuns
 pub mod ScalingWrites
 pub mod RbspWrites
 pub mod UnitWrites

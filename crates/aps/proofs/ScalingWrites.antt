@@ -3,7 +3,6 @@ use mathlib.Core.Path.{◌≡◌, refl, sym, ap, ◌∙◌}
 use mathlib.Core.Bool.{Bool, true, false, cond, not}
 use mathlib.Core.List.{List, [], ◌∷◌}
 use Prim.Native.Nat.{ℕ, suc, ◌+◌, ◌-◌, ◌*◌, ◌≤◌, ◌<◌}
-use native.Mathlib.Nat.{sub-zero}
 use native.Mathlib.Numerals.{add-one}
 use native.Mathlib.Omega.{arith}
 use borrow.Author.Tests.{ltb-true}
@@ -101,10 +100,6 @@ module _ (id n : ℕ) (dc : ℤ) (vs : List ℤ) (before : Writer) where
   -- the first i of the sums vs are written, the last of them is prev: what is left to write makes it whole
   pub record Summing (i : ℕ) (prev : ℤ) (now : Writer) : Type 0 where
     pub rest : writes (sums id i (n - i) prev) (drop i vs) now.buffer now.at ≡ writes (sums id 0 n dc) vs before.buffer before.at
-
-  -- none is written at the start
-  pub summing_start : Summing 0 dc before
-  summing_start = record { rest = rw (sub-zero n) }
 
   -- what is left is one sum and then the others
   rest-step : (i : ℕ) (prev : ℤ) (now : Writer) (v : ℤ) → i < n → drop i vs ≡ v ∷ drop (suc i) vs → Summing i prev now

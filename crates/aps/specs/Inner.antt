@@ -1,15 +1,12 @@
 -- For the proofs' sake: what the inner functions promise each other on the way. No public contract says anything of this file.
-use Rattle.std.specs.Prelude.{◌≡◌, Bool, true, false, cond, not, List, [], ◌∷◌, ℕ, ◌+◌, ◌*◌, ◌/◌, ◌%◌, ◌^◌, ◌≤◌, eqb, ltb, ℤ, length, take}
+use Rattle.std.specs.Prelude.{◌≡◌, Bool, false, cond, not, List, [], ◌∷◌, ℕ, ◌*◌, ◌/◌, ◌%◌, ◌^◌, ◌≤◌, eqb, ltb, ℤ, length, take}
 use Rattle.std.proofs.lemmas.List.Edits.{sets}
 use Rattle.bitstream.specs.Outcome.{Outcome, value, refused, number, ◌then◌, map_outcome}
 use Rattle.bitstream.specs.Bits.{field_at}
 use Rattle.bitstream.specs.Fields.{lacks}
 use Rattle.bitstream.specs.Windows.{IsWindow}
 use Rattle.bitstream.specs.declared.Refusal.{Refusal}
-use Rattle.bitstream.specs.declared.Refusal.TheVariants.{InvalidData}
 use Rattle.bitstream.specs.declared.nal.Size.{Size}
-use Rattle.aps.specs.Codec.{Codec}
-use Rattle.aps.specs.Writes.{writes}
 use Rattle.aps.specs.Elements.{flag}
 use Rattle.aps.specs.LmcsSyntax.{LmcsHead, lmcs_codewords, lmcs_chroma, to_lmcs}
 use Rattle.aps.specs.ScalingSyntax.{Entry}
@@ -64,10 +61,6 @@ after (Stop.Refused e) f = refused (number e)
 abbrev pub StopsBy : Stop → ℕ → Type 0
 StopsBy (Stop.End p) m = p ≤ m
 StopsBy (Stop.Refused e) m = Unit {0}
-
--- from one stop to the next there are at most n bits
-abbrev pub Spans : Stop → Stop → ℕ → Type 0
-Spans from to n = (m : ℕ) → StopsBy from m → StopsBy to (m + n)
 
 -- ---- reading
 
@@ -293,21 +286,3 @@ Unwrapped (Size.Refused e) o work = o ≡ refused (number e)
 abbrev pub outcome_admission : Admission → Outcome (Unit {0})
 outcome_admission Admission.Aps = value tt 16
 outcome_admission (Admission.Refused e) = refused (number e)
-
--- ---- writing
-
--- from one stop to the next a was written so, in at most m bits
-pub record Wrote {A : Type 0} (c : Codec A) (a : A) (m : ℕ) (from to : Stop) (out out' : List ℕ) : Type 0 where
-  pub answer : outcome_stop to out' ≡ after from (writes c a out)
-  pub within : Spans from to m
-
--- where nothing is sent: the stop stays if the value is the inferred one
-abbrev pub unsent : Stop → Bool → Stop
-unsent (Stop.End p) true = Stop.End p
-unsent (Stop.End p) false = Stop.Refused InvalidData
-unsent (Stop.Refused e) b = Stop.Refused e
-
--- the bytes of a buffer that an answer says were written
-abbrev pub first_bytes : Size → List ℕ → List ℕ
-first_bytes (Size.Bytes n) l = take n l
-first_bytes (Size.Refused e) l = []

@@ -6,14 +6,12 @@ ghost use Rattle.aps.specs.declared.aps.VvcAps.{VvcAps};
 ghost use Rattle.aps.specs.ApsSyntax.{of_alf, of_lmcs, of_scaling, payload, aps, from_aps};
 ghost use Rattle.aps.specs.ApsSyntax as Syntax;
 ghost use Rattle.aps.specs.ScalingSyntax.{look};
-ghost use Rattle.aps.specs.Inner.{outcome_stop, StopsBy};
-ghost use Rattle.aps.specs.Writes.{Wrote, written, closed};
+ghost use Rattle.aps.specs.Writes.{Wrote, closed};
 ghost use Rattle.aps.specs.Writing.{bytes_due, alf_set, lmcs_set, scaling_set, write_aps, write_nal, write_aps_nal};
 
 use crate::alf::VvcAlfData;
 use crate::alf_write::write_alf_data;
 use crate::aps::{Alf, ApsKind, Lmcs, Scaling, VvcAps};
-use crate::fields::Stop;
 use crate::lmcs::VvcLmcsData;
 use crate::lmcs_write::write_lmcs_data;
 use crate::scaling_list::VvcScalingListData;
@@ -63,8 +61,7 @@ impl Payload for VvcLmcsData {
         if Lmcs::MAX_ID < id {
             return Err(Refusal::InvalidData);
         }
-        let stop = write_lmcs_data(&mut writer.buffer, Stop::End(writer.at), chroma, *self);
-        stopped(writer, stop)
+        write_lmcs_data(writer, chroma, self)
     }
 }
 
@@ -79,22 +76,7 @@ impl Payload for VvcScalingListData {
         if Scaling::MAX_ID < id {
             return Err(Refusal::InvalidData);
         }
-        let stop = write_scaling_list_data(&mut writer.buffer, Stop::End(writer.at), chroma, *self);
-        stopped(writer, stop)
-    }
-}
-
-// Where a writing that was not the writer's own ended.
-fn stopped(writer: &mut Writer, stop: Stop) -> Result<(), Refusal>
-    ensures wrote { written result writer.new ≡ outcome_stop stop writer.old.buffer }
-    ensures within { (m : ℕ) → writer.old.at ≤ m → StopsBy stop m → writer.new.at ≤ m }
-{
-    match stop {
-        Stop::End(end) => {
-            writer.at = end;
-            Ok(())
-        }
-        Stop::Refused(why) => Err(why),
+        write_scaling_list_data(writer, chroma, self)
     }
 }
 

@@ -3,7 +3,7 @@ use native.Mathlib.Omega.{arith}
 use Rattle.aps.specs.Elements.{zipped}
 use Rattle.aps.specs.AlfSyntax.{alternative}
 use Rattle.aps.proofs.WriterLaws.{wrote-exit, writing_more, writing-refused, writing-done}
-use Rattle.aps.proofs.ArrayWrites.{rows_step, rows-length}
+use Rattle.aps.proofs.EntryWrites.{rows_step, rows-length}
 use Rattle.aps.proofs.AlfFilters.{alternatives-wrote}
 use Rattle.aps.proofs.alf_chroma_write.put_alternatives.Goals as goal
 use Rattle.aps.proofs.alf_chroma_write.put_alternatives.Invariants.{rows}
