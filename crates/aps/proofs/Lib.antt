@@ -22,6 +22,8 @@ pub mod FieldSteps
 pub mod WindowSteps
 pub mod TableSteps
 pub mod Steps
+pub mod ReaderLaws
+pub mod SeRange
 pub mod StopLaws
 pub mod CoefficientSteps
 pub mod AlfSteps

@@ -9,7 +9,11 @@ use native.Mathlib.Omega.{arith}
 use lib.Dec.{ltb, eqb}
 use lib.ListN.{length, drop, set, length-drop}
 use lib.Seq.{take-length, drop-length, length-take-le}
-use Rattle.bitstream.specs.Outcome.{Outcome, value, refused, left, ◌then◌}
+use Rattle.std.proofs.Common.{Result}
+use Rattle.std.proofs.lemmas.Result.{err_from_is_err_and}
+use Rattle.std.specs.Result.{IsErrAnd}
+use Rattle.bitstream.specs.Outcome.{Outcome, value, refused, number, outcome_written, left, ◌then◌}
+use Rattle.bitstream.specs.declared.Refusal.{Refusal}
 use Rattle.bitstream.specs.Escapes.{escape, put_bytes, rbsp_to_ebsp}
 use Rattle.bitstream.proofs.CodeLaws.{value-refused}
 use Rattle.bitstream.proofs.WriteLaws.{wrote}
@@ -61,6 +65,11 @@ module _ (out l : List ℕ) where
 -- a call that answers and leaves what another does
 pub answered-as : (out : List ℕ) {a o w : Outcome (List ℕ)} {last : List ℕ} → w ≡ o → (a ≡ o) × (last ≡ left out o) → (a ≡ w) × (last ≡ left out w)
 answered-as out e h = (h.0 ∙ sym e, h.1 ∙ ap (left out) (sym e))
+
+-- what the exit of a `?` returns is the refusal that it met
+pub answer-exit : (out : List ℕ) (r : Result ℕ Refusal) (why : Refusal) {o : Outcome (List ℕ)} {last : List ℕ} → IsErrAnd r (λ e. e ≡ why) → (refused (number why) ≡ o) × (last ≡ left out o)
+    → (outcome_written r last ≡ o) × (last ≡ left out o)
+answer-exit out r why h e = let p = err_from_is_err_and r h in (rw (p.1, p.2) e.0, e.1)
 
 -- ---- a unit
 

@@ -1,12 +1,11 @@
 -- For the proofs' sake: what the inner functions promise each other on the way. No public contract says anything of this file.
-use Rattle.std.specs.Prelude.{◌≡◌, Bool, false, cond, not, List, [], ◌∷◌, ℕ, ◌*◌, ◌/◌, ◌%◌, ◌^◌, ◌≤◌, eqb, ltb, ℤ, length, take}
+use Rattle.std.specs.Prelude.{◌≡◌, Bool, false, cond, not, List, [], ◌∷◌, ℕ, ◌*◌, ◌/◌, ◌%◌, ◌^◌, ◌≤◌, eqb, ltb, ℤ, length, take, Result, Ok, Err}
 use Rattle.std.proofs.lemmas.List.Edits.{sets}
 use Rattle.bitstream.specs.Outcome.{Outcome, value, refused, number, ◌then◌, map_outcome}
 use Rattle.bitstream.specs.Bits.{field_at}
 use Rattle.bitstream.specs.Fields.{lacks}
 use Rattle.bitstream.specs.Windows.{IsWindow}
 use Rattle.bitstream.specs.declared.Refusal.{Refusal}
-use Rattle.bitstream.specs.declared.nal.Size.{Size}
 use Rattle.aps.specs.Elements.{flag}
 use Rattle.aps.specs.LmcsSyntax.{LmcsHead, lmcs_codewords, lmcs_chroma, to_lmcs}
 use Rattle.aps.specs.ScalingSyntax.{Entry}
@@ -14,6 +13,8 @@ use Rattle.aps.specs.AlfSyntax.{to_luma, to_cc, to_alf, alf_filters}
 use Rattle.aps.specs.ApsSyntax.{zero_alf, zero_lmcs, zero_scaling}
 use Rattle.aps.specs.Rbsp.{closed, read_rbsp, parse_aps_rbsp}
 use Rattle.aps.specs.Reading.{outcome_read, set_given, head_of}
+use Rattle.aps.specs.declared.fields.FieldU.{FieldU}
+use Rattle.aps.specs.declared.fields.FieldS.{FieldS}
 use Rattle.aps.specs.declared.fields.Stop.{Stop}
 use Rattle.aps.specs.declared.fields.SignedField.{SignedField}
 use Rattle.aps.specs.declared.fields.SignedField.TheVariants as Signed
@@ -63,6 +64,14 @@ StopsBy (Stop.End p) m = p ≤ m
 StopsBy (Stop.Refused e) m = Unit {0}
 
 -- ---- reading
+
+abbrev pub outcome_u : FieldU → Outcome ℕ
+outcome_u (FieldU.Value v r) = value v r.bit_pos
+outcome_u (FieldU.Refused e) = refused (number e)
+
+abbrev pub outcome_s : FieldS → Outcome ℤ
+outcome_s (FieldS.Value v r) = value v r.bit_pos
+outcome_s (FieldS.Refused e) = refused (number e)
 
 abbrev pub outcome_signed : SignedField → Outcome (ℕ × Bool)
 outcome_signed (Signed.Value m s q) = value (m, s) q
@@ -279,9 +288,9 @@ abbrev pub outcome_id : IdRead → List ℤ → Outcome Entry
 outcome_id r l = outcome_stop {A = Entry} r.stop (r.copy, (r.pred, (r.delta, (r.dc, l))))
 
 -- the RBSP of the unit that o is the answer to stands at the start of the work buffer, or there is none
-abbrev pub Unwrapped : Size → Outcome VvcAps → List ℕ → Type 0
-Unwrapped (Size.Bytes n) o work = (n ≤ length work) × (o ≡ parse_aps_rbsp (take n work))
-Unwrapped (Size.Refused e) o work = o ≡ refused (number e)
+abbrev pub Unwrapped : Result ℕ Refusal → Outcome VvcAps → List ℕ → Type 0
+Unwrapped (Ok n) o work = (n ≤ length work) × (o ≡ parse_aps_rbsp (take n work))
+Unwrapped (Err e) o work = o ≡ refused (number e)
 
 abbrev pub outcome_admission : Admission → Outcome (Unit {0})
 outcome_admission Admission.Aps = value tt 16

@@ -6,6 +6,7 @@ pub mod LmcsSyntax
 pub mod ScalingSyntax
 pub mod ApsSyntax
 pub mod Rbsp
+pub mod Reads
 pub mod Unit
 pub mod Reading
 pub mod Writing

@@ -1,7 +1,6 @@
 // alf_data(), H.266 7.3.2.18.
 ghost use Rattle.std.specs.Prelude.{◌≡◌, false, ◌||◌, ◌*◌, ◌≤◌, length, replicate};
 ghost use Rattle.bitstream.specs.Outcome.{map_outcome};
-ghost use Rattle.bitstream.specs.Windows.{ShortCodes};
 ghost use Rattle.aps.specs.AlfSyntax.{luma, to_luma, no_luma};
 ghost use Rattle.aps.specs.AlfSyntax.{chroma, to_chroma, no_chroma, cc, to_cc, no_cc};
 ghost use Rattle.aps.specs.AlfSyntax.{alf, alf_filters, to_alf};
@@ -12,7 +11,7 @@ use crate::alf_chroma::{read_cc, read_chroma};
 use crate::alf_luma::read_luma;
 use crate::fields::{Stop, lacks_bits, read_flag};
 use bitstream::Refusal;
-use bitstream::short_codes::short_codes;
+use bitstream::short_codes::CodeTable;
 
 // Luma filters: row r of the flat arrays is at 12 * r. In this order of fields there is no gap to copy.
 #[derive(Clone, Copy)]
@@ -138,7 +137,7 @@ pub(crate) fn zero_alf() -> VvcAlfData
 // The luma filters if they are signalled.
 fn read_luma_if(
     bytes: &[u8],
-    codes: &[u16; 512],
+    codes: &CodeTable,
     p: usize,
     signal: bool,
     idx: &mut [u8; 25],
@@ -147,8 +146,7 @@ fn read_luma_if(
     clip: &mut [u8; 300],
 ) -> FiltersRead
     requires { (length bytes.now ≤ 65536) × (p ≤ length bytes.now * 8)
-        × (idx.old ≡ replicate 25 0) × (abs.old ≡ replicate 300 0) × (sign.old ≡ replicate 300 false) × (clip.old ≡ replicate 300 0)
-        × ShortCodes codes.now }
+        × (idx.old ≡ replicate 25 0) × (abs.old ≡ replicate 300 0) × (sign.old ≡ replicate 300 false) × (clip.old ≡ replicate 300 0) }
     ensures { outcome_stop result.stop
         (luma_of result.clip result.count_minus1 idx.new abs.new sign.new clip.new)
         ≡ (luma signal).read bytes.now p }
@@ -166,7 +164,7 @@ fn read_luma_if(
 // The chroma filters if they are signalled.
 fn read_chroma_if(
     bytes: &[u8],
-    codes: &[u16; 512],
+    codes: &CodeTable,
     from: Stop,
     signal: bool,
     abs: &mut [u32; 48],
@@ -174,7 +172,7 @@ fn read_chroma_if(
     clip: &mut [u8; 48],
 ) -> FiltersRead
     requires { (length bytes.now ≤ 65536) × StopsBy from (length bytes.now * 8)
-        × (abs.old ≡ replicate 48 0) × (sign.old ≡ replicate 48 false) × (clip.old ≡ replicate 48 0) × ShortCodes codes.now }
+        × (abs.old ≡ replicate 48 0) × (sign.old ≡ replicate 48 false) × (clip.old ≡ replicate 48 0) }
     ensures { outcome_stop result.stop (chroma_of result.clip result.count_minus1 abs.new sign.new clip.new)
         ≡ after from λ p. (chroma signal).read bytes.now p }
 {
@@ -200,14 +198,14 @@ fn read_chroma_if(
 // The filters of Cb or Cr if they are signalled.
 fn read_cc_if(
     bytes: &[u8],
-    codes: &[u16; 512],
+    codes: &CodeTable,
     from: Stop,
     signal: bool,
     abs: &mut [u8; 28],
     sign: &mut [bool; 28],
 ) -> CcRead
     requires { (length bytes.now ≤ 65536) × StopsBy from (length bytes.now * 8)
-        × (abs.old ≡ replicate 28 0) × (sign.old ≡ replicate 28 false) × ShortCodes codes.now }
+        × (abs.old ≡ replicate 28 0) × (sign.old ≡ replicate 28 false) }
     ensures { outcome_stop result.stop (cc_of result.count_minus1 abs.new sign.new)
         ≡ after from λ p. (cc signal).read bytes.now p }
 {
@@ -305,7 +303,7 @@ fn read_alf_filters(
     if !is_any(luma, chroma, cb, cr) {
         return no_filters(Stop::End(p));
     }
-    let codes = short_codes();
+    let codes = CodeTable::new();
     let l = read_luma_if(
         bytes, &codes, p, luma, luma_idx, luma_abs, luma_sign, luma_clip,
     );

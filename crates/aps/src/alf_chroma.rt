@@ -2,17 +2,16 @@
 ghost use Rattle.std.specs.Prelude.{◌≡◌, true, false, ◌*◌, ◌≤◌, ◌<◌, length, replicate};
 ghost use Rattle.std.proofs.lemmas.List.Edits.{sets};
 ghost use Rattle.bitstream.specs.Outcome.{map_outcome};
-ghost use Rattle.bitstream.specs.Windows.{ShortCodes};
 ghost use Rattle.aps.specs.Elements.{zipped};
 ghost use Rattle.aps.specs.AlfSyntax.{chroma, alternative, alternatives, chroma_arrays, cc, cc_coefficients};
 ghost use Rattle.aps.specs.Inner.{outcome_stop, chroma_of, cc_of};
 
 use crate::alf::{CcRead, FiltersRead};
 use crate::alf_fields::{clips_sent, read_clips, read_coefficients, read_filters_head, read_ue_to};
-use crate::fields::Stop;
+use crate::fields::{FieldU, Stop};
 use crate::windows::{held_signed, window_at};
 use bitstream::Refusal;
-use bitstream::bit_reader::FieldU;
+use bitstream::short_codes::CodeTable;
 
 // One alternative: its coefficients and its clips.
 #[derive(Clone, Copy)]
@@ -24,8 +23,8 @@ struct Alternative {
 }
 
 // Alternatives that are sent are read alike, whichever it is and however many there are.
-fn read_alternative(bytes: &[u8], codes: &[u16; 512], p: usize, clip: bool) -> Alternative
-    requires { (length bytes.now ≤ 65536) × (p ≤ length bytes.now * 8) × ShortCodes codes.now }
+fn read_alternative(bytes: &[u8], codes: &CodeTable, p: usize, clip: bool) -> Alternative
+    requires { (length bytes.now ≤ 65536) × (p ≤ length bytes.now * 8) }
     ensures { outcome_stop result.stop (zipped result.abs result.sign, result.clip) ≡ (alternative clip 0 0).read bytes.now p }
 {
     let mut abs = [0u32; 6];
@@ -67,7 +66,7 @@ fn keep_alternative(
 // The alternatives, one after another.
 fn read_alternatives(
     bytes: &[u8],
-    codes: &[u16; 512],
+    codes: &CodeTable,
     p: usize,
     clip: bool,
     count_minus1: u32,
@@ -76,8 +75,7 @@ fn read_alternatives(
     clips: &mut [u8; 48],
 ) -> Stop
     requires { (length bytes.now ≤ 65536) × (p ≤ length bytes.now * 8) × (count_minus1 ≤ 7)
-        × (abs.old ≡ replicate 48 0) × (sign.old ≡ replicate 48 false) × (clips.old ≡ replicate 48 0)
-        × ShortCodes codes.now }
+        × (abs.old ≡ replicate 48 0) × (sign.old ≡ replicate 48 false) × (clips.old ≡ replicate 48 0) }
     ensures { outcome_stop result (abs.new, (sign.new, clips.new))
         ≡ map_outcome chroma_arrays ((alternatives clip count_minus1).read bytes.now p) }
 {
@@ -99,15 +97,14 @@ fn read_alternatives(
 // The chroma filters.
 pub(crate) fn read_chroma(
     bytes: &[u8],
-    codes: &[u16; 512],
+    codes: &CodeTable,
     p: usize,
     abs: &mut [u32; 48],
     sign: &mut [bool; 48],
     clips: &mut [u8; 48],
 ) -> FiltersRead
     requires { (length bytes.now ≤ 65536) × (p ≤ length bytes.now * 8)
-        × (abs.old ≡ replicate 48 0) × (sign.old ≡ replicate 48 false) × (clips.old ≡ replicate 48 0)
-        × ShortCodes codes.now }
+        × (abs.old ≡ replicate 48 0) × (sign.old ≡ replicate 48 false) × (clips.old ≡ replicate 48 0) }
     ensures { outcome_stop result.stop (chroma_of result.clip result.count_minus1 abs.new sign.new clips.new)
         ≡ (chroma true).read bytes.now p }
 {
@@ -158,13 +155,12 @@ fn read_cc_coefficients(
 // The filters of Cb or Cr.
 pub(crate) fn read_cc(
     bytes: &[u8],
-    codes: &[u16; 512],
+    codes: &CodeTable,
     p: usize,
     abs: &mut [u8; 28],
     sign: &mut [bool; 28],
 ) -> CcRead
-    requires { (length bytes.now ≤ 65536) × (p ≤ length bytes.now * 8) × (abs.old ≡ replicate 28 0) × (sign.old ≡ replicate 28 false)
-        × ShortCodes codes.now }
+    requires { (length bytes.now ≤ 65536) × (p ≤ length bytes.now * 8) × (abs.old ≡ replicate 28 0) × (sign.old ≡ replicate 28 false) }
     ensures { outcome_stop result.stop (cc_of result.count_minus1 abs.new sign.new)
         ≡ (cc true).read bytes.now p }
 {

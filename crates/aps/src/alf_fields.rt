@@ -1,19 +1,16 @@
 // The fields that the filters of alf_data() are made of.
 ghost use Rattle.std.specs.Prelude.{◌≡◌, false, cond, ◌+◌, ◌*◌, ◌%◌, ◌≤◌, ltb, length, replicate};
 ghost use Rattle.std.proofs.lemmas.List.Edits.{sets};
-ghost use Rattle.bitstream.specs.Reading.{outcome_u};
-ghost use Rattle.bitstream.specs.Windows.{ShortCodes};
 ghost use Rattle.aps.specs.Codec.{u, ◌▷◌, when, each};
 ghost use Rattle.aps.specs.Elements.{flag, ue_to, no_number, no_signed, apart};
 ghost use Rattle.aps.specs.AlfSyntax.{ceil_log2, coefficient};
-ghost use Rattle.aps.specs.Inner.{outcome_stop, outcome_signed, after, StopsBy, Known, outcome_held, KnownAfter, six_of};
+ghost use Rattle.aps.specs.Inner.{outcome_u, outcome_stop, outcome_signed, after, StopsBy, Known, outcome_held, KnownAfter, six_of};
 
 use crate::alf::FiltersRead;
-use crate::fields::{SignedField, Stop, lacks_bits, read_flag, read_sign, read_ue};
+use crate::fields::{FieldU, SignedField, Stop, lacks_bits, read_flag, read_sign, read_ue};
 use crate::windows::{Window, filled, past, window_at};
 use bitstream::Refusal;
-use bitstream::bit_reader::FieldU;
-use bitstream::short_codes::code_by_table;
+use bitstream::short_codes::CodeTable;
 use bitstream::window::window;
 
 // Ceil( Log2( x ) ).
@@ -27,8 +24,8 @@ pub(crate) fn ceil_log2(x: u32) -> u32
 }
 
 // ue(v) in 0..most.
-pub(crate) fn read_ue_to(bytes: &[u8], codes: &[u16; 512], p: usize, most: u32) -> FieldU
-    requires { (length bytes.now ≤ 65536) × (p ≤ length bytes.now * 8) × ShortCodes codes.now }
+pub(crate) fn read_ue_to(bytes: &[u8], codes: &CodeTable, p: usize, most: u32) -> FieldU
+    requires { (length bytes.now ≤ 65536) × (p ≤ length bytes.now * 8) }
     ensures { outcome_u result ≡ (ue_to most).read bytes.now p }
 {
     let field = read_ue(bytes, codes, p);
@@ -45,13 +42,8 @@ pub(crate) fn read_ue_to(bytes: &[u8], codes: &[u16; 512], p: usize, most: u32) 
 }
 
 // The clip flag, and the count less one.
-pub(crate) fn read_filters_head(
-    bytes: &[u8],
-    codes: &[u16; 512],
-    p: usize,
-    most: u32,
-) -> FiltersRead
-    requires { (length bytes.now ≤ 65536) × (p ≤ length bytes.now * 8) × ShortCodes codes.now }
+pub(crate) fn read_filters_head(bytes: &[u8], codes: &CodeTable, p: usize, most: u32) -> FiltersRead
+    requires { (length bytes.now ≤ 65536) × (p ≤ length bytes.now * 8) }
     ensures { outcome_stop result.stop (result.clip, result.count_minus1) ≡ (flag ▷ λ clip. ue_to most).read bytes.now p }
 {
     if lacks_bits(bytes, p, 1) {
@@ -81,8 +73,8 @@ fn no_filters(why: Refusal) -> FiltersRead
 }
 
 // A magnitude in 0..128, and its sign if it is not 0.
-fn read_coefficient(bytes: &[u8], codes: &[u16; 512], p: usize) -> SignedField
-    requires { (length bytes.now ≤ 65536) × (p ≤ length bytes.now * 8) × ShortCodes codes.now }
+fn read_coefficient(bytes: &[u8], codes: &CodeTable, p: usize) -> SignedField
+    requires { (length bytes.now ≤ 65536) × (p ≤ length bytes.now * 8) }
     ensures { outcome_signed result ≡ coefficient.read bytes.now p }
 {
     let magnitude = read_ue_to(bytes, codes, p, 128);
@@ -100,8 +92,8 @@ enum HeldCoefficient {
 }
 
 // One that a window does not hold, or that is refused.
-fn other_coefficient(bytes: &[u8], codes: &[u16; 512], p: usize) -> HeldCoefficient
-    requires { (length bytes.now ≤ 65536) × (p ≤ length bytes.now * 8) × ShortCodes codes.now }
+fn other_coefficient(bytes: &[u8], codes: &CodeTable, p: usize) -> HeldCoefficient
+    requires { (length bytes.now ≤ 65536) × (p ≤ length bytes.now * 8) }
     ensures { (outcome_held result ≡ coefficient.read bytes.now p) × KnownAfter bytes.now result }
 {
     match read_coefficient(bytes, codes, p) {
@@ -115,18 +107,17 @@ fn other_coefficient(bytes: &[u8], codes: &[u16; 512], p: usize) -> HeldCoeffici
 }
 
 // One out of a window: at most 17 bits and the sign, which is sent unless the first bit is 1.
-fn held_coefficient(bytes: &[u8], codes: &[u16; 512], from: Window) -> HeldCoefficient
-    requires { (length bytes.now ≤ 65536) × Known bytes.now from × (from.at ≤ length bytes.now * 8) × ShortCodes codes.now }
+fn held_coefficient(bytes: &[u8], codes: &CodeTable, from: Window) -> HeldCoefficient
+    requires { (length bytes.now ≤ 65536) × Known bytes.now from × (from.at ≤ length bytes.now * 8) }
     ensures { (outcome_held result ≡ coefficient.read bytes.now from.at) × KnownAfter bytes.now result }
 {
     let held = filled(bytes, from, 18);
     let bits = held.bits;
     let at = held.at;
-    let code = code_by_table(codes, bits);
-    let size = code.bits;
-    let abs = code.value;
     let sent = 1 - (bits >> 63);
-    if size != 0 {
+    if let Some(code) = codes.code(bits) {
+        let size = code.bits;
+        let abs = code.value;
         if abs <= 128 {
             if at + (size + sent) as usize <= bytes.len() * 8 {
                 return HeldCoefficient::Value {
@@ -143,14 +134,14 @@ fn held_coefficient(bytes: &[u8], codes: &[u16; 512], from: Window) -> HeldCoeff
 // The first n coefficients of two arrays of zeros.
 pub(crate) fn read_coefficients(
     bytes: &[u8],
-    codes: &[u16; 512],
+    codes: &CodeTable,
     from: Stop,
     n: usize,
     abs: &mut [u32],
     sign: &mut [bool],
 ) -> Stop
     requires { (length bytes.now ≤ 65536) × StopsBy from (length bytes.now * 8) × (n ≤ length abs.old) × (n ≤ 300)
-        × (abs.old ≡ replicate (length abs.old) 0) × (sign.old ≡ replicate (length abs.old) false) × ShortCodes codes.now }
+        × (abs.old ≡ replicate (length abs.old) 0) × (sign.old ≡ replicate (length abs.old) false) }
     ensures { outcome_stop result (abs.new, sign.new) ≡ after from λ p.
         (apart (each (length abs.old) (λ i. when (ltb i n) no_signed coefficient))).read bytes.now p }
 {

@@ -1,6 +1,5 @@
 // The luma filters of alf_data().
 ghost use Rattle.std.specs.Prelude.{◌≡◌, true, false, ◌*◌, ◌≤◌, length, replicate};
-ghost use Rattle.bitstream.specs.Windows.{ShortCodes};
 ghost use Rattle.aps.specs.AlfSyntax.{luma, luma_indexes};
 ghost use Rattle.aps.specs.Inner.{outcome_stop, luma_of};
 
@@ -9,6 +8,7 @@ use crate::alf_fields::{ceil_log2, clips_sent, read_clips, read_coefficients, re
 use crate::fields::Stop;
 use crate::windows::{held_u, window_at};
 use bitstream::Refusal;
+use bitstream::short_codes::CodeTable;
 
 // The 25 indexes, each at most count - 1, if there is more than one filter.
 fn read_indexes(bytes: &[u8], p: usize, count_minus1: u32, idx: &mut [u8; 25]) -> Stop
@@ -40,7 +40,7 @@ fn read_indexes(bytes: &[u8], p: usize, count_minus1: u32, idx: &mut [u8; 25]) -
 // The luma filters.
 pub(crate) fn read_luma(
     bytes: &[u8],
-    codes: &[u16; 512],
+    codes: &CodeTable,
     p: usize,
     idx: &mut [u8; 25],
     abs: &mut [u32; 300],
@@ -48,8 +48,7 @@ pub(crate) fn read_luma(
     clips: &mut [u8; 300],
 ) -> FiltersRead
     requires { (length bytes.now ≤ 65536) × (p ≤ length bytes.now * 8)
-        × (idx.old ≡ replicate 25 0) × (abs.old ≡ replicate 300 0) × (sign.old ≡ replicate 300 false) × (clips.old ≡ replicate 300 0)
-        × ShortCodes codes.now }
+        × (idx.old ≡ replicate 25 0) × (abs.old ≡ replicate 300 0) × (sign.old ≡ replicate 300 false) × (clips.old ≡ replicate 300 0) }
     ensures { outcome_stop result.stop
         (luma_of result.clip result.count_minus1 idx.new abs.new sign.new clips.new)
         ≡ (luma true).read bytes.now p }

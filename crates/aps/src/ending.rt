@@ -8,7 +8,7 @@ ghost use Rattle.aps.specs.declared.aps.VvcAps.{VvcAps};
 use crate::aps::ApsOutcome;
 use crate::fields::{lacks_bits, read_flag};
 use bitstream::Refusal;
-use bitstream::bit_reader::{BitReader, Trailing};
+use bitstream::bit_reader::BitReader;
 
 // Where the RBSP ends: with extension flag 1 nothing more is read.
 fn read_end(bytes: &[u8], p: usize, extension: bool) -> ApsOutcome
@@ -19,8 +19,8 @@ fn read_end(bytes: &[u8], p: usize, extension: bool) -> ApsOutcome
         return ApsOutcome::Read(p);
     }
     match (BitReader { bit_pos: p }).read_rbsp_trailing_bits(bytes) {
-        Trailing::Aligned(r) => ApsOutcome::Read(r.bit_pos),
-        Trailing::Refused(why) => ApsOutcome::Refused(why),
+        Ok(r) => ApsOutcome::Read(r.bit_pos),
+        Err(why) => ApsOutcome::Refused(why),
     }
 }
 

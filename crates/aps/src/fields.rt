@@ -3,16 +3,28 @@ ghost use Rattle.std.specs.Prelude.{◌≡◌, not, ◌*◌, ◌≤◌, ◌<◌,
 ghost use Rattle.bitstream.specs.Outcome.{value, ◌then◌};
 ghost use Rattle.bitstream.specs.Bits.{field_at};
 ghost use Rattle.bitstream.specs.Fields.{lacks, se_value};
-ghost use Rattle.bitstream.specs.Reading.{outcome_u, outcome_s};
-ghost use Rattle.bitstream.specs.Windows.{ShortCodes};
 ghost use Rattle.aps.specs.Codec.{u, ue, when};
 ghost use Rattle.aps.specs.Elements.{flag, se, no_flag, signed};
-ghost use Rattle.aps.specs.Inner.{outcome_signed};
+ghost use Rattle.aps.specs.Inner.{outcome_u, outcome_s, outcome_signed};
 
 use bitstream::Refusal;
-use bitstream::bit_reader::{BitReader, FieldS, FieldU};
-use bitstream::short_codes::code_by_table;
+use bitstream::bit_reader::BitReader;
+use bitstream::short_codes::CodeTable;
 use bitstream::window::window_alone;
+
+// An unsigned field and the position after it.
+#[derive(Clone, Copy)]
+pub(crate) enum FieldU {
+    Value(u32, BitReader),
+    Refused(Refusal),
+}
+
+// A signed field and the position after it.
+#[derive(Clone, Copy)]
+pub(crate) enum FieldS {
+    Value(i32, BitReader),
+    Refused(Refusal),
+}
 
 // Where a run of fields ended, or why it was refused.
 #[derive(Clone, Copy)]
@@ -44,11 +56,9 @@ pub(crate) fn read_u(bytes: &[u8], p: usize, n: u32) -> u32
     requires { (length bytes.now ≤ 65536) × (p ≤ 1000000) × (n ≤ 32) }
     ensures { result ≡ field_at bytes.now p n }
 {
-    let read = (BitReader { bit_pos: p }).u(bytes, n);
-    let field = read.field;
-    match field {
-        FieldU::Value(v, _) => v,
-        FieldU::Refused(_) => 0,
+    match (BitReader { bit_pos: p }).u(bytes, n) {
+        Ok(field) => field.value,
+        Err(_) => 0,
     }
 }
 
@@ -65,23 +75,24 @@ pub(crate) fn long_ue(bytes: &[u8], p: usize) -> FieldU
     requires { (length bytes.now ≤ 65536) × (p ≤ 1000000) }
     ensures { outcome_u result ≡ ue.read bytes.now p }
 {
-    let read = (BitReader { bit_pos: p }).ue(bytes);
-    if read.lacking {
-        return FieldU::Refused(Refusal::UnexpectedEnd);
+    match (BitReader { bit_pos: p }).ue(bytes) {
+        Ok(field) => {
+            if field.lacking {
+                return FieldU::Refused(Refusal::UnexpectedEnd);
+            }
+            FieldU::Value(field.value, field.next)
+        }
+        Err(why) => FieldU::Refused(why),
     }
-    let field = read.field;
-    field
 }
 
 // ue(v), looked for in the table first.
-pub(crate) fn read_ue(bytes: &[u8], codes: &[u16; 512], p: usize) -> FieldU
-    requires { (length bytes.now ≤ 65536) × (p ≤ 1000000) × ShortCodes codes.now }
+pub(crate) fn read_ue(bytes: &[u8], codes: &CodeTable, p: usize) -> FieldU
+    requires { (length bytes.now ≤ 65536) × (p ≤ 1000000) }
     ensures { outcome_u result ≡ ue.read bytes.now p }
 {
-    let code = code_by_table(codes, window_alone(bytes, p));
-    let n = code.bits;
-    if n != 0 {
-        let next = p + n as usize;
+    if let Some(code) = codes.code(window_alone(bytes, p)) {
+        let next = p + code.bits as usize;
         if next <= bytes.len() * 8 {
             return FieldU::Value(code.value, BitReader { bit_pos: next });
         }
@@ -94,12 +105,15 @@ fn long_se(bytes: &[u8], p: usize) -> FieldS
     requires { (length bytes.now ≤ 65536) × (p ≤ 1000000) }
     ensures { outcome_s result ≡ se.read bytes.now p }
 {
-    let read = (BitReader { bit_pos: p }).se(bytes);
-    if read.lacking {
-        return FieldS::Refused(Refusal::UnexpectedEnd);
+    match (BitReader { bit_pos: p }).se(bytes) {
+        Ok(field) => {
+            if field.lacking {
+                return FieldS::Refused(Refusal::UnexpectedEnd);
+            }
+            FieldS::Value(field.value, field.next)
+        }
+        Err(why) => FieldS::Refused(why),
     }
-    let field = read.field;
-    field
 }
 
 // The se that a short ue stands for.
@@ -114,14 +128,12 @@ pub(crate) fn se_of(k: u32) -> i32
 }
 
 // se(v), looked for in the table first.
-pub(crate) fn read_se(bytes: &[u8], codes: &[u16; 512], p: usize) -> FieldS
-    requires { (length bytes.now ≤ 65536) × (p ≤ 1000000) × ShortCodes codes.now }
+pub(crate) fn read_se(bytes: &[u8], codes: &CodeTable, p: usize) -> FieldS
+    requires { (length bytes.now ≤ 65536) × (p ≤ 1000000) }
     ensures { outcome_s result ≡ se.read bytes.now p }
 {
-    let code = code_by_table(codes, window_alone(bytes, p));
-    let n = code.bits;
-    if n != 0 {
-        let next = p + n as usize;
+    if let Some(code) = codes.code(window_alone(bytes, p)) {
+        let next = p + code.bits as usize;
         if next <= bytes.len() * 8 {
             return FieldS::Value(se_of(code.value), BitReader { bit_pos: next });
         }

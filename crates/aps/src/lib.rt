@@ -16,6 +16,7 @@ pub mod lmcs;
 pub mod lmcs_set;
 mod lmcs_write;
 pub mod nal_header;
+mod reader;
 pub mod scaling_list;
 mod scaling_list_data;
 mod scaling_list_write;

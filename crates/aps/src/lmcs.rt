@@ -4,10 +4,9 @@ ghost use Rattle.aps.specs.Inner.{lmcs_rest, lmcs_of, no_lmcs, outcome_stop, out
 ghost use Rattle.aps.specs.LmcsSyntax.{in_range, lmcs_head, lmcs_codewords, lmcs_chroma, lmcs};
 ghost use Rattle.aps.specs.ApsSyntax.{zero_lmcs};
 
-use crate::fields::{SignedField, Stop, long_ue, read_signed};
+use crate::fields::{FieldU, SignedField, Stop, long_ue, read_signed};
 use crate::windows::{held_signed, window_at};
 use bitstream::Refusal;
-use bitstream::bit_reader::FieldU;
 
 #[derive(Clone, Copy)]
 pub struct VvcLmcsData {

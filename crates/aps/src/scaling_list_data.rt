@@ -2,20 +2,18 @@
 ghost use Rattle.std.specs.Prelude.{◌≡◌, cond, false, ◌-◌, ◌*◌, ◌≤◌, ◌<◌, ltb, pos, negsuc, nat_abs, length, set, replicate};
 ghost use Rattle.std.proofs.lemmas.List.Edits.{sets};
 ghost use Rattle.bitstream.specs.Outcome.{map_outcome};
-ghost use Rattle.bitstream.specs.Reading.{outcome_u, outcome_s};
-ghost use Rattle.bitstream.specs.Windows.{ShortCodes};
 ghost use Rattle.aps.specs.Elements.{se_in};
-ghost use Rattle.aps.specs.Inner.{stored_list, stored, scaling_of, outcome_stop, outcome_coefficients, outcome_id, Known, outcome_sum, KnownSum};
+ghost use Rattle.aps.specs.Inner.{outcome_u, outcome_s, stored_list, stored, scaling_of, outcome_stop, outcome_coefficients, outcome_id, Known, outcome_sum, KnownSum};
 ghost use Rattle.aps.specs.ScalingSyntax.{entries, step, step_at, sums, dc_at, delta_at, coefficients, entry_syntax, id_at, scaling_syntax, keep};
 
-use crate::fields::{Stop, lacks_bits, read_flag, read_se, read_ue, se_of};
+use crate::fields::{FieldS, FieldU, Stop, lacks_bits, read_flag, read_se, read_ue, se_of};
 use crate::scaling_list::{
     delta_sent, matrix_entries, max_id_delta, scaling_id_coded, step_skipped,
 };
 use crate::windows::{Window, filled, past, window_at};
 use bitstream::Refusal;
-use bitstream::bit_reader::{BitReader, FieldS, FieldU};
-use bitstream::short_codes::{code_by_table, short_codes};
+use bitstream::bit_reader::BitReader;
+use bitstream::short_codes::CodeTable;
 
 // The DC of one id; its list is stored in the flat array.
 #[derive(Clone, Copy)]
@@ -35,8 +33,8 @@ struct IdRead {
 }
 
 // se(v) in -128..127.
-fn read_se8(bytes: &[u8], codes: &[u16; 512], p: usize) -> FieldS
-    requires { (length bytes.now ≤ 65536) × (p ≤ length bytes.now * 8) × ShortCodes codes.now }
+fn read_se8(bytes: &[u8], codes: &CodeTable, p: usize) -> FieldS
+    requires { (length bytes.now ≤ 65536) × (p ≤ length bytes.now * 8) }
     ensures { outcome_s result ≡ (se_in (negsuc 127) (pos 127)).read bytes.now p }
 {
     let field = read_se(bytes, codes, p);
@@ -62,8 +60,8 @@ enum HeldSum {
 }
 
 // A step that a window does not hold, or that is refused.
-fn other_step(bytes: &[u8], codes: &[u16; 512], p: usize, prev: i32) -> HeldSum
-    requires { (length bytes.now ≤ 65536) × (p ≤ length bytes.now * 8) × (nat_abs prev ≤ 9000) × ShortCodes codes.now }
+fn other_step(bytes: &[u8], codes: &CodeTable, p: usize, prev: i32) -> HeldSum
+    requires { (length bytes.now ≤ 65536) × (p ≤ length bytes.now * 8) × (nat_abs prev ≤ 9000) }
     ensures { (outcome_sum result ≡ (step prev).read bytes.now p) × KnownSum bytes.now result }
 {
     match read_se8(bytes, codes, p) {
@@ -75,14 +73,13 @@ fn other_step(bytes: &[u8], codes: &[u16; 512], p: usize, prev: i32) -> HeldSum
 // The sum at position i, after prev, out of a window: a step has at most 17 bits.
 fn held_step(
     bytes: &[u8],
-    codes: &[u16; 512],
+    codes: &CodeTable,
     from: Window,
     id: usize,
     i: usize,
     prev: i32,
 ) -> HeldSum
-    requires { (length bytes.now ≤ 65536) × Known bytes.now from × (from.at ≤ length bytes.now * 8) × (i < 64) × (nat_abs prev ≤ 9000)
-        × ShortCodes codes.now }
+    requires { (length bytes.now ≤ 65536) × Known bytes.now from × (from.at ≤ length bytes.now * 8) × (i < 64) × (nat_abs prev ≤ 9000) }
     ensures { (outcome_sum result ≡ (step_at id i prev).read bytes.now from.at) × KnownSum bytes.now result }
 {
     if step_skipped(id, i) {
@@ -90,10 +87,9 @@ fn held_step(
     }
     let held = filled(bytes, from, 17);
     let at = held.at;
-    let code = code_by_table(codes, held.bits);
-    let size = code.bits;
-    let k = code.value;
-    if size != 0 {
+    if let Some(code) = codes.code(held.bits) {
+        let size = code.bits;
+        let k = code.value;
         if k <= 254 {
             if at + size as usize <= bytes.len() * 8 {
                 return HeldSum::Value(se_of(k) + prev, past(held, size, 17));
@@ -106,13 +102,13 @@ fn held_step(
 // The sums of id after its DC, stored in its list.
 fn read_steps(
     bytes: &[u8],
-    codes: &[u16; 512],
+    codes: &CodeTable,
     p: usize,
     id: usize,
     dc: i32,
     list: &mut [i32; 1792],
 ) -> Stop
-    requires { (length bytes.now ≤ 65536) × (p ≤ length bytes.now * 8) × (id < 28) × (nat_abs dc ≤ 128) × ShortCodes codes.now }
+    requires { (length bytes.now ≤ 65536) × (p ≤ length bytes.now * 8) × (id < 28) × (nat_abs dc ≤ 128) }
     ensures { outcome_stop result list.new
         ≡ map_outcome (λ l. sets list.old (64 * id) l) ((sums id 0 (entries id) dc).read bytes.now p) }
 {
@@ -138,8 +134,8 @@ fn read_steps(
 }
 
 // scaling_list_dc_coef, above id 13.
-fn read_dc(bytes: &[u8], codes: &[u16; 512], p: usize, id: usize) -> FieldS
-    requires { (length bytes.now ≤ 65536) × (p ≤ length bytes.now * 8) × ShortCodes codes.now }
+fn read_dc(bytes: &[u8], codes: &CodeTable, p: usize, id: usize) -> FieldS
+    requires { (length bytes.now ≤ 65536) × (p ≤ length bytes.now * 8) }
     ensures { outcome_s result ≡ (dc_at id).read bytes.now p }
 {
     if 13 < id {
@@ -151,12 +147,12 @@ fn read_dc(bytes: &[u8], codes: &[u16; 512], p: usize, id: usize) -> FieldS
 // The DC and the sums of an id that is not copied.
 pub(crate) fn read_coefficients(
     bytes: &[u8],
-    codes: &[u16; 512],
+    codes: &CodeTable,
     p: usize,
     id: usize,
     list: &mut [i32; 1792],
 ) -> CoefficientsRead
-    requires { (length bytes.now ≤ 65536) × (p ≤ length bytes.now * 8) × (id < 28) × ShortCodes codes.now }
+    requires { (length bytes.now ≤ 65536) × (p ≤ length bytes.now * 8) × (id < 28) }
     ensures { outcome_coefficients result list.new
         ≡ map_outcome (stored_list list.old id) ((coefficients id).read bytes.now p) }
 {
@@ -174,8 +170,8 @@ pub(crate) fn read_coefficients(
 }
 
 // scaling_list_pred_id_delta.
-fn read_delta(bytes: &[u8], codes: &[u16; 512], p: usize, id: usize, used: bool) -> FieldU
-    requires { (length bytes.now ≤ 65536) × (p ≤ length bytes.now * 8) × (id < 28) × ShortCodes codes.now }
+fn read_delta(bytes: &[u8], codes: &CodeTable, p: usize, id: usize, used: bool) -> FieldU
+    requires { (length bytes.now ≤ 65536) × (p ≤ length bytes.now * 8) × (id < 28) }
     ensures { outcome_u result ≡ (delta_at id used).read bytes.now p }
 {
     if !delta_sent(id, used) {
@@ -208,12 +204,12 @@ fn no_id(why: Refusal) -> IdRead
 // One coded id.
 fn read_entry(
     bytes: &[u8],
-    codes: &[u16; 512],
+    codes: &CodeTable,
     p: usize,
     id: usize,
     list: &mut [i32; 1792],
 ) -> IdRead
-    requires { (length bytes.now ≤ 65536) × (p ≤ length bytes.now * 8) × (id < 28) × ShortCodes codes.now }
+    requires { (length bytes.now ≤ 65536) × (p ≤ length bytes.now * 8) × (id < 28) }
     ensures { outcome_id result list.new ≡ map_outcome (stored list.old id) ((entry_syntax id).read bytes.now p) }
 {
     if lacks_bits(bytes, p, 1) {
@@ -256,13 +252,13 @@ fn read_entry(
 // One id; an uncoded one is a copy.
 fn read_id(
     bytes: &[u8],
-    codes: &[u16; 512],
+    codes: &CodeTable,
     p: usize,
     chroma: bool,
     id: usize,
     list: &mut [i32; 1792],
 ) -> IdRead
-    requires { (length bytes.now ≤ 65536) × (p ≤ length bytes.now * 8) × (id < 28) × ShortCodes codes.now }
+    requires { (length bytes.now ≤ 65536) × (p ≤ length bytes.now * 8) × (id < 28) }
     ensures { outcome_id result list.new ≡ map_outcome (stored list.old id) ((id_at chroma id).read bytes.now p) }
 {
     if scaling_id_coded(id, chroma) {
@@ -304,7 +300,7 @@ pub(crate) fn parse_scaling_list_data(
     ensures { outcome_stop result (scaling_of copy.new pred.new delta.new dc.new list.new)
         ≡ map_outcome keep ((scaling_syntax chroma).read bytes.now p) }
 {
-    let codes = short_codes();
+    let codes = CodeTable::new();
     let mut at = p;
     let mut id: usize = 0;
     while id < 28 {

@@ -1,7 +1,7 @@
 // A set written as an RBSP or as a unit. After src/h266/aps.rs.
 ghost use Rattle.std.specs.Prelude.{◌≡◌, Bool, false, ℕ, ◌+◌, ◌≤◌, replicate};
-ghost use Rattle.bitstream.specs.Outcome.{left};
-ghost use Rattle.bitstream.specs.Escapes.{outcome_size, put_bytes};
+ghost use Rattle.bitstream.specs.Outcome.{left, outcome_written};
+ghost use Rattle.bitstream.specs.Escapes.{put_bytes};
 ghost use Rattle.aps.specs.declared.aps.VvcAps.{VvcAps};
 ghost use Rattle.aps.specs.ApsSyntax.{of_alf, of_lmcs, of_scaling, payload, aps, from_aps};
 ghost use Rattle.aps.specs.ApsSyntax as Syntax;
@@ -18,7 +18,7 @@ use crate::scaling_list::VvcScalingListData;
 use crate::scaling_list_write::write_scaling_list_data;
 use crate::unit::is_aps;
 use crate::writer::Writer;
-use bitstream::nal::{Size, rbsp_to_ebsp};
+use bitstream::nal::rbsp_to_ebsp;
 use bitstream::{LONGEST_INPUT, Refusal};
 
 // A payload: its kind's number, and its fields; an id that the kind does not have is refused before a bit of the payload is written.
@@ -129,91 +129,99 @@ fn write_rbsp(writer: &mut Writer, set: &VvcAps) -> Result<(), Refusal>
 }
 
 // Bytes put at the start of the output if it has room for them.
-pub fn copy_out(bytes: &[u8], out: &mut [u8]) -> Size
-    ensures answer { outcome_size result out.new ≡ put_bytes out.old bytes.now }
+pub fn copy_out(bytes: &[u8], out: &mut [u8]) -> Result<usize, Refusal>
+    ensures answer { outcome_written result out.new ≡ put_bytes out.old bytes.now }
     ensures bytes { out.new ≡ left out.old (put_bytes out.old bytes.now) }
 {
     if out.len() < bytes.len() {
-        return Size::Refused(Refusal::OutputTooShort);
+        return Err(Refusal::OutputTooShort);
     }
     out[..bytes.len()].copy_from_slice(bytes);
-    Size::Bytes(bytes.len())
+    Ok(bytes.len())
 }
 
 // An RBSP as a unit: its header, then the RBSP with escapes put in. 2: the unit's type; 4; 5.
-pub fn write_nal(rbsp: &[u8], unit_type: u8, out: &mut [u8]) -> Size
-    ensures answer { outcome_size result out.new ≡ write_nal rbsp.now unit_type out.old }
+pub fn write_nal(rbsp: &[u8], unit_type: u8, out: &mut [u8]) -> Result<usize, Refusal>
+    ensures answer { outcome_written result out.new ≡ write_nal rbsp.now unit_type out.old }
     ensures bytes { out.new ≡ left out.old (write_nal rbsp.now unit_type out.old) }
 {
     if !is_aps(unit_type) {
-        return Size::Refused(Refusal::InvalidData);
+        return Err(Refusal::InvalidData);
     }
     if LONGEST_INPUT < rbsp.len() {
-        return Size::Refused(Refusal::InputTooLong);
+        return Err(Refusal::InputTooLong);
     }
     if out.len() < 2 {
-        return Size::Refused(Refusal::OutputTooShort);
+        return Err(Refusal::OutputTooShort);
     }
-    match rbsp_to_ebsp(rbsp, &mut out[2..]) {
-        Size::Bytes(n) => {
-            out[0] = 0;
-            out[1] = unit_type * 8 + 1;
-            Size::Bytes(n + 2)
-        }
-        Size::Refused(short) => Size::Refused(short),
-    }
+    let n = rbsp_to_ebsp(rbsp, &mut out[2..])?;
+    out[0] = 0;
+    out[1] = unit_type * 8 + 1;
+    Ok(n + 2)
 }
 
 // A set as an RBSP, stop bit and padding included.
-pub fn write_aps(set: &VvcAps, out: &mut [u8]) -> Size
-    ensures answer { outcome_size result out.new ≡ write_aps set.now out.old }
+pub fn write_aps(set: &VvcAps, out: &mut [u8]) -> Result<usize, Refusal>
+    ensures answer { outcome_written result out.new ≡ write_aps set.now out.old }
     ensures bytes { out.new ≡ left out.old (write_aps set.now out.old) }
 {
     let mut writer = Writer::new();
-    match write_rbsp(&mut writer, set) {
-        Ok(()) => copy_out(writer.bytes(), out),
-        Err(why) => Size::Refused(why),
-    }
+    write_rbsp(&mut writer, set)?;
+    copy_out(writer.bytes(), out)
 }
 
 // A set as a unit: its header, then the RBSP with escapes put in.
-pub fn write_aps_nal(set: &VvcAps, unit_type: u8, out: &mut [u8]) -> Size
-    ensures answer { outcome_size result out.new ≡ write_aps_nal set.now unit_type out.old }
+pub fn write_aps_nal(set: &VvcAps, unit_type: u8, out: &mut [u8]) -> Result<usize, Refusal>
+    ensures answer { outcome_written result out.new ≡ write_aps_nal set.now unit_type out.old }
     ensures bytes { out.new ≡ left out.old (write_aps_nal set.now unit_type out.old) }
 {
     if !is_aps(unit_type) {
-        return Size::Refused(Refusal::InvalidData);
+        return Err(Refusal::InvalidData);
     }
     let mut writer = Writer::new();
-    match write_rbsp(&mut writer, set) {
-        Ok(()) => write_nal(writer.bytes(), unit_type, out),
-        Err(why) => Size::Refused(why),
-    }
+    write_rbsp(&mut writer, set)?;
+    write_nal(writer.bytes(), unit_type, out)
 }
 
 // A set of one kind as an RBSP, without the record of all three kinds.
-fn write_one<P: Payload>(id: u8, chroma: bool, extension: bool, data: &P, out: &mut [u8]) -> Size
-    ensures answer { (a : VvcAps) → from_aps a ≡ (P.NUMBER, (id, (chroma, (P.sent chroma data.now, extension)))) → outcome_size result out.new ≡ write_aps a out.old }
+fn write_one<P: Payload>(
+    id: u8,
+    chroma: bool,
+    extension: bool,
+    data: &P,
+    out: &mut [u8],
+) -> Result<usize, Refusal>
+    ensures answer { (a : VvcAps) → from_aps a ≡ (P.NUMBER, (id, (chroma, (P.sent chroma data.now, extension)))) → outcome_written result out.new ≡ write_aps a out.old }
     ensures bytes { (a : VvcAps) → from_aps a ≡ (P.NUMBER, (id, (chroma, (P.sent chroma data.now, extension)))) → out.new ≡ left out.old (write_aps a out.old) }
 {
     let mut writer = Writer::new();
-    match put_rbsp(&mut writer, id, chroma, extension, data) {
-        Ok(()) => copy_out(writer.bytes(), out),
-        Err(why) => Size::Refused(why),
-    }
+    put_rbsp(&mut writer, id, chroma, extension, data)?;
+    copy_out(writer.bytes(), out)
 }
 
 // An ALF set as an RBSP.
-pub fn write_alf(id: u8, chroma: bool, extension: bool, d: &VvcAlfData, out: &mut [u8]) -> Size
-    ensures answer { outcome_size result out.new ≡ write_aps (alf_set id chroma extension d.now) out.old }
+pub fn write_alf(
+    id: u8,
+    chroma: bool,
+    extension: bool,
+    d: &VvcAlfData,
+    out: &mut [u8],
+) -> Result<usize, Refusal>
+    ensures answer { outcome_written result out.new ≡ write_aps (alf_set id chroma extension d.now) out.old }
     ensures bytes { out.new ≡ left out.old (write_aps (alf_set id chroma extension d.now) out.old) }
 {
     write_one(id, chroma, extension, d, out)
 }
 
 // An LMCS set as an RBSP.
-pub fn write_lmcs(id: u8, chroma: bool, extension: bool, d: &VvcLmcsData, out: &mut [u8]) -> Size
-    ensures answer { outcome_size result out.new ≡ write_aps (lmcs_set id chroma extension d.now) out.old }
+pub fn write_lmcs(
+    id: u8,
+    chroma: bool,
+    extension: bool,
+    d: &VvcLmcsData,
+    out: &mut [u8],
+) -> Result<usize, Refusal>
+    ensures answer { outcome_written result out.new ≡ write_aps (lmcs_set id chroma extension d.now) out.old }
     ensures bytes { out.new ≡ left out.old (write_aps (lmcs_set id chroma extension d.now) out.old) }
 {
     write_one(id, chroma, extension, d, out)
@@ -226,8 +234,8 @@ pub fn write_scaling(
     extension: bool,
     d: &VvcScalingListData,
     out: &mut [u8],
-) -> Size
-    ensures answer { outcome_size result out.new ≡ write_aps (scaling_set id chroma extension d.now) out.old }
+) -> Result<usize, Refusal>
+    ensures answer { outcome_written result out.new ≡ write_aps (scaling_set id chroma extension d.now) out.old }
     ensures bytes { out.new ≡ left out.old (write_aps (scaling_set id chroma extension d.now) out.old) }
 {
     write_one(id, chroma, extension, d, out)

@@ -8,7 +8,7 @@ ghost use Rattle.aps.specs.AlfSyntax.{coefficient};
 ghost use Rattle.aps.specs.Writes.{Wrote, written, unsent};
 
 use bitstream::Refusal;
-use bitstream::bit_writer::{Written, write_bits, write_rbsp_trailing_bits, write_se, write_ue};
+use bitstream::bit_writer::{write_bits, write_rbsp_trailing_bits, write_se, write_ue};
 
 // The bits of a set on their way: the first `at` bits of the buffer are written.
 #[derive(Drop)]
@@ -37,13 +37,9 @@ impl Writer {
         if 1u64 << n as u64 <= v as u64 {
             return Err(Refusal::InvalidData);
         }
-        match write_bits(&mut self.buffer, self.at, v, n) {
-            Written::To(end) => {
-                self.at = end;
-                Ok(())
-            }
-            Written::Refused(why) => Err(why),
-        }
+        let end = write_bits(&mut self.buffer, self.at, v, n)?;
+        self.at = end;
+        Ok(())
     }
 
     // u(1) as a flag.
@@ -65,13 +61,9 @@ impl Writer {
         if most < v {
             return Err(Refusal::InvalidData);
         }
-        match write_ue(&mut self.buffer, self.at, v) {
-            Written::To(end) => {
-                self.at = end;
-                Ok(())
-            }
-            Written::Refused(why) => Err(why),
-        }
+        let end = write_ue(&mut self.buffer, self.at, v)?;
+        self.at = end;
+        Ok(())
     }
 
     // se(v) in -128..127.
@@ -83,13 +75,9 @@ impl Writer {
         if v < -128 || 127 < v {
             return Err(Refusal::InvalidData);
         }
-        match write_se(&mut self.buffer, self.at, v) {
-            Written::To(end) => {
-                self.at = end;
-                Ok(())
-            }
-            Written::Refused(why) => Err(why),
-        }
+        let end = write_se(&mut self.buffer, self.at, v)?;
+        self.at = end;
+        Ok(())
     }
 
     // A magnitude u(n), and its sign if it is not 0.
@@ -129,13 +117,9 @@ impl Writer {
         ensures wrote { written result self.new ≡ write_trailing_at self.old.buffer self.old.at }
         ensures within { self.new.at ≤ self.old.at + 8 }
     {
-        match write_rbsp_trailing_bits(&mut self.buffer, self.at) {
-            Written::To(end) => {
-                self.at = end;
-                Ok(())
-            }
-            Written::Refused(why) => Err(why),
-        }
+        let end = write_rbsp_trailing_bits(&mut self.buffer, self.at)?;
+        self.at = end;
+        Ok(())
     }
 
     // The whole bytes that are written.

@@ -17,7 +17,6 @@ use aps_table::places::{Table, new_table};
 use aps_table::table::{
     Counts, LookupOutcome, StreamAnswer, UnitAnswer, lookup, lookup_head, take_stream, take_unit,
 };
-use bitstream::number;
 
 // A unit that is neither taken nor refused.
 pub const PASSED_OVER: u32 = 256;
@@ -38,7 +37,7 @@ pub fn aps_take_unit(table: &mut Table, unit: &[u8], work: &mut [u8]) -> u32
     match take_unit(table, unit, work) {
         UnitAnswer::Accepted => 0,
         UnitAnswer::Passed => PASSED_OVER,
-        UnitAnswer::Refused(why) => number(why),
+        UnitAnswer::Refused(why) => why.into(),
     }
 }
 
@@ -68,7 +67,7 @@ pub fn aps_take_stream(
             put_counts(c, counts);
             0
         }
-        StreamAnswer::Refused(why) => number(why),
+        StreamAnswer::Refused(why) => why.into(),
     }
 }
 
@@ -84,7 +83,7 @@ pub fn aps_lookup(table: &Table, kind: u8, id: u8, set: &mut [i64; NUMBERS]) -> 
             put_set(found.set, set);
             0
         }
-        LookupOutcome::Refused(why) => number(why),
+        LookupOutcome::Refused(why) => why.into(),
     }
 }
 
@@ -114,7 +113,7 @@ pub fn aps_lookup_flags(table: &Table, kind: u8, id: u8, flags: &mut [u8; 2]) ->
             put_flags(head.aps_chroma_present_flag, head.aps_extension_flag, flags);
             0
         }
-        LookupOutcome::Refused(why) => number(why),
+        LookupOutcome::Refused(why) => why.into(),
     }
 }
 

@@ -1,4 +1,5 @@
 -- What each way through the code of the list comes to: the bytes in the buffer so far.
+use Rattle.std.specs.Prelude.{Result, Ok, Err}
 use borrow.Author.Tests.{le-ltb}
 use borrow.Rule.Slice.PartMut.{mid_of, put_mid}
 use mathlib.Core.Path.{◌≡◌, refl, sym, ap, ◌∙◌}
@@ -13,7 +14,6 @@ use lib.Seq.{sets, sets-eq, length-take-le, take-append-le, take-append-add, tak
 use Rattle.bitstream.specs.Outcome.{Outcome, value, refused, left, number, ◌then◌}
 use Rattle.bitstream.specs.Escapes.{put_bytes}
 use Rattle.bitstream.specs.declared.Refusal.{Refusal}
-use Rattle.bitstream.specs.declared.nal.Size.{Size}
 use Rattle.bitstream.proofs.CodeLaws.{value-refused}
 use Rattle.bitstream.proofs.EscapeLaws.{escape-most}
 use Rattle.bitstream.proofs.WriteLaws.{wrote}
@@ -116,11 +116,11 @@ list-more (suc zero) i = omega arith
 list-more (suc (suc k)) i = omega arith
 
 -- an entry ends where the next place's may begin
-entry-within : (k i p : ℕ) (b : Option VvcAps) (r : Size) (last l : List ℕ) → ((a : VvcAps) → b ≡ some a → kind_in a ≡ k) → p ≤ list_at k i → up_to r last ≡ joined (value l p) (entry b)
+entry-within : (k i p : ℕ) (b : Option VvcAps) (r : Result ℕ Refusal) (last l : List ℕ) → ((a : VvcAps) → b ≡ some a → kind_in a ≡ k) → p ≤ list_at k i → up_to r last ≡ joined (value l p) (entry b)
     → AtMost r (list_at k (i + 1))
-entry-within k i p b (Size.Refused n) last l w h e = tt
-entry-within k i p none (Size.Bytes q) last l w h e = let s : q ≡ p + 0 = cc in omega (arith, list-more k i)
-entry-within k i p (some a) (Size.Bytes q) last l w h e = go (entry_due a) refl e
+entry-within k i p b (Err n) last l w h e = tt
+entry-within k i p none (Ok q) last l w h e = let s : q ≡ p + 0 = cc in omega (arith, list-more k i)
+entry-within k i p (some a) (Ok q) last l w h e = go (entry_due a) refl e
   where
     go : (o : Outcome (List ℕ)) → entry_due a ≡ o → value (take q last) q ≡ joined (value l p) o → q ≤ list_at k (i + 1)
     go (value m n) f e =
@@ -130,14 +130,14 @@ entry-within k i p (some a) (Size.Bytes q) last l w h e = go (entry_due a) refl 
         omega arith
     go (refused n) f e = absurd (value-refused e)
 
-module _ (t : List ℕ) (k i : ℕ) (from : Size) (buffer : List ℕ) where
-  module _ (p : ℕ) (f : from ≡ Size.Bytes p) (h : AtMost from (list_at k i)) where
+module _ (t : List ℕ) (k i : ℕ) (from : Result ℕ Refusal) (buffer : List ℕ) where
+  module _ (p : ℕ) (f : from ≡ Ok p) (h : AtMost from (list_at k i)) where
     -- a place's bytes begin in time
     pub place_at_lem : p ≤ list_at k i
     place_at_lem = rw f at h
 
     -- the entry of a place's bytes
-    pub place-put : (s : List ℕ) (r : Size) (last : List ℕ) → s ≡ place_bytes t k i → up_to r last ≡ joined (value (take p buffer) p) (entry (under k i (read_rbsp s)))
+    pub place-put : (s : List ℕ) (r : Result ℕ Refusal) (last : List ℕ) → s ≡ place_bytes t k i → up_to r last ≡ joined (value (take p buffer) p) (entry (under k i (read_rbsp s)))
         → (up_to r last ≡ joined (up_to from buffer) (entry (held t k i))) × AtMost r (list_at k (i + 1))
     unfolding held
     place-put s r last e w =
@@ -145,7 +145,7 @@ module _ (t : List ℕ) (k i : ℕ) (from : Size) (buffer : List ℕ) where
         (v ∙ rw f, entry-within k i p (held t k i) r last (take p buffer) (λ a g. (held-some t k i a g).0) place_at_lem v)
 
   -- a refusal stays
-  pub place-refused : (n : Refusal) → from ≡ Size.Refused n → refused (number n) ≡ joined (up_to from buffer) (entry (held t k i))
+  pub place-refused : (n : Refusal) → from ≡ Err n → refused (number n) ≡ joined (up_to from buffer) (entry (held t k i))
   place-refused n f = rw f
 
 -- ---- the places of a kind
@@ -168,7 +168,7 @@ module _ (b : Entries) (k : ℕ) (o : Outcome (List ℕ)) where
       f ∙ ap (λ (x : Outcome (List ℕ)). joined x (entry (b k i))) e ∙ joined-joined o (listed (ids k 0 i) b) (entry (b k i)) ∙ ap (joined o) (sym (listed_next b k i))
 
   -- all of them
-  pub kind-done : (i n : ℕ) (p : Outcome (List ℕ)) (r : Size) → i ≡ n → p ≡ joined o (listed (ids k 0 i) b) → AtMost r (list_at k i)
+  pub kind-done : (i n : ℕ) (p : Outcome (List ℕ)) (r : Result ℕ Refusal) → i ≡ n → p ≡ joined o (listed (ids k 0 i) b) → AtMost r (list_at k i)
       → (p ≡ joined o (listed (ids k 0 n) b)) × AtMost r (list_at k n)
   kind-done i n p r e f h = (rw e at f, rw e at h)
 

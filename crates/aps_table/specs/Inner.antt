@@ -1,8 +1,8 @@
 -- For the proofs' sake: what the inner functions promise each other on the way. No public contract says anything of this file.
-use Rattle.std.specs.Prelude.{ℕ, ◌+◌, ◌-◌, ◌*◌, ◌/◌, ◌≤◌, ◌<◌, ◌≡◌, Bool, true, false, List, [], length, get_or, take, drop}
+use Rattle.bitstream.specs.declared.Refusal.{Refusal}
+use Rattle.std.specs.Prelude.{ℕ, ◌+◌, ◌-◌, ◌*◌, ◌/◌, ◌≤◌, ◌<◌, ◌≡◌, Bool, true, false, List, [], length, get_or, take, drop, Result, Ok, Err}
 use Rattle.std.proofs.Math.Option.{none, some}
 use Rattle.bitstream.specs.Outcome.{Outcome, value, refused, number}
-use Rattle.bitstream.specs.declared.nal.Size.{Size}
 use Rattle.aps.specs.Kinds.{largest_id, most_bytes}
 use Rattle.aps_table.specs.declared.split.Next.{Next}
 use Rattle.aps_table.specs.declared.split.Scan.{Scan}
@@ -66,14 +66,14 @@ units_of (some us) = us
 -- ---- the list, put together in a buffer
 
 -- the bytes that an answer says stand there
-abbrev pub up_to : Size → List ℕ → Outcome (List ℕ)
-up_to (Size.Bytes n) l = value (take n l) n
-up_to (Size.Refused e) l = refused (number e)
+abbrev pub up_to : Result ℕ Refusal → List ℕ → Outcome (List ℕ)
+up_to (Ok n) l = value (take n l) n
+up_to (Err e) l = refused (number e)
 
 -- they are n or fewer
-abbrev pub AtMost : Size → ℕ → Type 0
-AtMost (Size.Bytes m) n = m ≤ n
-AtMost (Size.Refused e) n = Unit {0}
+abbrev pub AtMost : Result ℕ Refusal → ℕ → Type 0
+AtMost (Ok m) n = m ≤ n
+AtMost (Err e) n = Unit {0}
 
 -- the most bytes of a unit in the list: start code, header, and the RBSP with escapes put in
 abbrev pub most_listed : ℕ → ℕ

@@ -4,24 +4,23 @@
 use aps_table::list::{LIST_BYTES, write_list};
 use aps_table::places::new_table;
 use aps_table::table::{StreamAnswer, take_stream};
-use bitstream::nal::Size;
-use bitstream::{Refusal, number};
+use bitstream::Refusal;
 
 fn refused(why: Refusal) {
     io::write_all(2, b"refused ");
-    io::print_decimal(2, number(why) as u64);
+    io::print_decimal(2, u32::from(why) as u64);
     io::write_all(2, b"\n");
 }
 
 // The bytes that an answer counts.
-fn put(size: Size, out: &[u8]) {
+fn put(size: Result<usize, Refusal>, out: &[u8]) {
     match size {
-        Size::Bytes(n) => {
+        Ok(n) => {
             if n <= out.len() {
                 io::write_all(1, &out[..n]);
             }
         }
-        Size::Refused(why) => refused(why),
+        Err(why) => refused(why),
     }
 }
 

@@ -8,7 +8,6 @@ ghost use Rattle.sets_text.specs.Refused.{refused_with};
 use aps::aps::{Alf, ApsHead, Lmcs, Scaling};
 use aps_table::places::{Table, new_table};
 use aps_table::table::{LookupOutcome, StreamAnswer, lookup_head, take_stream};
-use bitstream::number;
 
 fn text(s: &[u8]) {
     io::write_all(1, s);
@@ -66,7 +65,7 @@ pub fn print_sets(bytes: &[u8]) -> u32
             0
         }
         StreamAnswer::Refused(why) => {
-            let n = number(why);
+            let n = u32::from(why);
             text(b"refused ");
             io::print_decimal(1, n as u64);
             text(b"\n");

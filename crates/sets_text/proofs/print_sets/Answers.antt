@@ -8,4 +8,4 @@ returns-in-Counted c = by-taken _ c.in-Counted.is c.take_stream.ensures.answer (
 
 pub returns-in-Refused : goal.returns-in-Refused
 returns-in-Refused c =
-    c.number-n.ensures ∙ by-refused _ c.in-Refused.is c.take_stream.ensures.answer (sym c.large_buffer-work.ensures)
+    c.from-n.ensures ∙ by-refused _ c.in-Refused.is c.take_stream.ensures.answer (sym c.large_buffer-work.ensures)

@@ -62,16 +62,16 @@ returns-then-not-is_any c =
 
 pub read_chroma_if-c-requires : goal.read_chroma_if-c-requires
 read_chroma_if-c-requires c =
-    (c.requires.0, (luma-ends (goal.at.read_chroma_if-c-requires c).After-read_luma_if-l), c.requires.6, c.requires.7, c.requires.8, c.short_codes-codes.ensures)
+    (c.requires.0, (luma-ends (goal.at.read_chroma_if-c-requires c).After-read_luma_if-l), c.requires.6, c.requires.7, c.requires.8)
 
 pub read_cc_if-b-requires : goal.read_cc_if-b-requires
 read_cc_if-b-requires c =
-    (c.requires.0, (chroma-ends (goal.at.read_cc_if-b-requires c).After-read_chroma_if-c), c.requires.9, c.requires.10, c.short_codes-codes.ensures)
+    (c.requires.0, (chroma-ends (goal.at.read_cc_if-b-requires c).After-read_chroma_if-c), c.requires.9, c.requires.10)
 
 pub read_cc_if-r-requires : goal.read_cc_if-r-requires
 read_cc_if-r-requires c =
     let k = c.read_cc_if-b in
-    (c.requires.0, stops-inside (cc-law c.args.cb) c.args.bytes.now c.read_chroma_if-c.result.stop k.result.stop (cb-read (goal.at.read_cc_if-r-requires c).After-read_cc_if-b) k.ensures (chroma-ends (goal.at.read_cc_if-r-requires c).After-read_chroma_if-c), c.requires.11, c.requires.12, c.short_codes-codes.ensures)
+    (c.requires.0, stops-inside (cc-law c.args.cb) c.args.bytes.now c.read_chroma_if-c.result.stop k.result.stop (cb-read (goal.at.read_cc_if-r-requires c).After-read_cc_if-b) k.ensures (chroma-ends (goal.at.read_cc_if-r-requires c).After-read_chroma_if-c), c.requires.11, c.requires.12)
 
 pub returns : goal.returns
 unfolding to_alf

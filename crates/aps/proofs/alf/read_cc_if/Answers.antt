@@ -5,7 +5,7 @@ use Rattle.aps.proofs.StopLaws.{after-end}
 use Rattle.aps.proofs.alf.read_cc_if.Goals as goal
 
 pub read_cc-requires : goal.read_cc-requires
-read_cc-requires c = (c.requires.0, rw c.in-End.is at c.requires.1, c.requires.2, c.requires.3, c.requires.4)
+read_cc-requires c = (c.requires.0, rw c.in-End.is at c.requires.1, c.requires.2, c.requires.3)
 
 pub returns-then-signal : goal.returns-then-signal
 returns-then-signal c =

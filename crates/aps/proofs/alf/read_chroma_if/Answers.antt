@@ -5,7 +5,7 @@ use Rattle.aps.proofs.StopLaws.{after-end}
 use Rattle.aps.proofs.alf.read_chroma_if.Goals as goal
 
 pub read_chroma-requires : goal.read_chroma-requires
-read_chroma-requires c = (c.requires.0, rw c.in-End.is at c.requires.1, c.requires.2, c.requires.3, c.requires.4, c.requires.5)
+read_chroma-requires c = (c.requires.0, rw c.in-End.is at c.requires.1, c.requires.2, c.requires.3, c.requires.4)
 
 pub returns-then-signal : goal.returns-then-signal
 returns-then-signal c =

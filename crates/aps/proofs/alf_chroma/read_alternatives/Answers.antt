@@ -21,7 +21,7 @@ loop-row-init c =
     (omega arith, c.requires.1, rows-from a.clip a.count_minus1 a.bytes.now a.p a.abs.now a.sign.now a.clips.now c.requires.3 c.requires.4 c.requires.5)
 
 pub read_alternative-alternative-requires : goal.read_alternative-alternative-requires
-read_alternative-alternative-requires c = (omega arith, omega arith, c.requires.6)
+read_alternative-alternative-requires c = (omega arith, omega arith)
 
 pub returns-in-Refused : goal.returns-in-Refused
 returns-in-Refused c =

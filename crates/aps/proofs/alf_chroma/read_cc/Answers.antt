@@ -3,7 +3,7 @@ use mathlib.Core.Path.{sym, ap, ◌∙◌}
 use mathlib.Core.Bool.{Bool}
 use mathlib.Core.List.{List}
 use Prim.Native.Nat.{ℕ}
-use Rattle.bitstream.specs.Reading.{outcome_u}
+use Rattle.aps.specs.Inner.{outcome_u}
 use Rattle.aps.specs.AlfSyntax.{to_cc}
 use Rattle.aps.proofs.AlfSteps.{ue_to-most, cc-read}
 use Rattle.aps.proofs.StopLaws.{map-stop}

@@ -31,7 +31,7 @@ pub read_alternatives-stop-requires : goal.read_alternatives-stop-requires
 read_alternatives-stop-requires c =
     let s = c.args.bytes.now in
     let p = c.args.p in
-    (c.requires.0, head-inside 7 s p (announced (goal.at.read_alternatives-stop-requires c).In-End) c.requires.1, head-most 7 s p (announced (goal.at.read_alternatives-stop-requires c).In-End), c.requires.2, c.requires.3, c.requires.4, c.requires.5)
+    (c.requires.0, head-inside 7 s p (announced (goal.at.read_alternatives-stop-requires c).In-End) c.requires.1, head-most 7 s p (announced (goal.at.read_alternatives-stop-requires c).In-End), c.requires.2, c.requires.3, c.requires.4)
 
 pub returns : goal.returns
 unfolding chroma chroma_syntax

@@ -4,7 +4,7 @@ use Prim.Native.Nat.{◌*◌, ◌≤◌}
 use native.Mathlib.Omega.{arith}
 use lib.ListN.{length}
 use Rattle.bitstream.specs.Outcome.{value}
-use Rattle.bitstream.specs.Reading.{outcome_u}
+use Rattle.aps.specs.Inner.{outcome_u}
 use Rattle.aps.specs.Elements.{ue_to}
 use Rattle.aps.specs.AlfSyntax.{coefficient}
 use Rattle.aps.proofs.Bounds.{ue_to-any}

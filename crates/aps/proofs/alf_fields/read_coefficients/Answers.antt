@@ -35,7 +35,7 @@ loop-i-init c =
 pub held_coefficient-field-requires : goal.held_coefficient-field-requires
 held_coefficient-field-requires c =
     let o = c.loop-i in
-    (c.requires.0, o.invariant.3, o.invariant.1, c.requires.6)
+    (c.requires.0, o.invariant.3, o.invariant.1)
 
 pub bounds-abs-i : goal.bounds-abs-i
 bounds-abs-i c = omega (arith, c.loop-i.invariant.2.size)

@@ -1,7 +1,7 @@
 -- `read_filters_head`: the flag, then the count, which is judged.
 use mathlib.Core.Path.{sym, ap, ◌∙◌}
 use native.Mathlib.Omega.{arith}
-use Rattle.bitstream.specs.Reading.{outcome_u}
+use Rattle.aps.specs.Inner.{outcome_u}
 use Rattle.aps.proofs.AlfSteps.{head-lacking, head-here}
 use Rattle.aps.proofs.FieldLaws.{lacks-none}
 use Rattle.aps.proofs.alf_fields.read_filters_head.Goals as goal
@@ -13,7 +13,7 @@ returns-then-lacks_bits c =
 
 pub read_ue_to-count-requires : goal.read_ue_to-count-requires
 read_ue_to-count-requires c =
-    (c.requires.0, lacks-none c.args.bytes.now c.args.p 1 (omega arith) (sym c.lacks_bits.ensures ∙ c.if-lacks_bits.false), c.requires.2)
+    (c.requires.0, lacks-none c.args.bytes.now c.args.p 1 (omega arith) (sym c.lacks_bits.ensures ∙ c.if-lacks_bits.false))
 
 pub returns-in-Value : goal.returns-in-Value
 returns-in-Value c =

@@ -1,7 +1,7 @@
 -- `read_ue_to`: the value is judged when it is read.
 use borrow.Author.Tests.{le-leb, lt-leb}
 use mathlib.Core.Path.{sym, ap, ◌∙◌}
-use Rattle.bitstream.specs.Reading.{outcome_u}
+use Rattle.aps.specs.Inner.{outcome_u}
 use Rattle.aps.proofs.FieldSteps.{ue_to-read}
 use Rattle.aps.proofs.alf_fields.read_ue_to.Goals as goal
 

@@ -50,7 +50,7 @@ pub read_coefficients-coefficients-requires : goal.read_coefficients-coefficient
 read_coefficients-coefficients-requires c =
     let most = head-most 24 c.args.bytes.now c.args.p (announced (goal.at.read_coefficients-coefficients-requires c).In-End) in
     let size = filled-length 300 0 c.requires.3 in
-    (c.requires.0, (indexed (goal.at.read_coefficients-coefficients-requires c).After-read_indexes-indexes), omega (arith, most, size), omega (arith, most), filled-as 0 size c.requires.3, filled-as false size c.requires.4, c.requires.6)
+    (c.requires.0, (indexed (goal.at.read_coefficients-coefficients-requires c).After-read_indexes-indexes), omega (arith, most, size), omega (arith, most), filled-as 0 size c.requires.3, filled-as false size c.requires.4)
 
 pub read_clips-stop-requires : goal.read_clips-stop-requires
 read_clips-stop-requires c =

@@ -1,7 +1,7 @@
 -- `read_end`: nothing more with extension flag 1, else the trailing bits.
 use mathlib.Core.Path.{sym, ◌∙◌}
 use native.Mathlib.Omega.{arith}
-use Rattle.bitstream.specs.Reading.{outcome_t}
+use Rattle.bitstream.specs.Reading.{outcome_aligned}
 use Rattle.bitstream.proofs.CallLaws.{trailing-in}
 use Rattle.aps.specs.Rbsp.{closed}
 use Rattle.aps.proofs.Answers.{answered}
@@ -11,14 +11,14 @@ pub returns-then-extension : goal.returns-then-extension
 unfolding closed
 returns-then-extension c = λ a e. rw (e, c.if-extension.true)
 
-pub returns-in-Aligned : goal.returns-in-Aligned
+pub returns-in-Ok : goal.returns-in-Ok
 unfolding closed
-returns-in-Aligned c =
-    let t = sym (trailing-in c.args.bytes.now c.args.p c.requires.0 (omega arith)) ∙ answered outcome_t c.in-Aligned.is c.read_rbsp_trailing_bits.ensures in
+returns-in-Ok c =
+    let t = sym (trailing-in c.args.bytes.now c.args.p c.requires.0 (omega arith)) ∙ answered outcome_aligned c.in-Ok.is c.read_rbsp_trailing_bits.ensures in
     λ a e. rw (e, c.if-extension.false, t)
 
-pub returns-in-Refused : goal.returns-in-Refused
+pub returns-in-Err : goal.returns-in-Err
 unfolding closed
-returns-in-Refused c =
-    let t = sym (trailing-in c.args.bytes.now c.args.p c.requires.0 (omega arith)) ∙ answered outcome_t c.in-Refused.is c.read_rbsp_trailing_bits.ensures in
+returns-in-Err c =
+    let t = sym (trailing-in c.args.bytes.now c.args.p c.requires.0 (omega arith)) ∙ answered outcome_aligned c.in-Err.is c.read_rbsp_trailing_bits.ensures in
     λ set e. rw (e, c.if-extension.false, t)

@@ -4,7 +4,7 @@ use mathlib.Core.Path.{◌≡◌, sym, ◌∙◌}
 use lib.ListN.{length}
 use native.Mathlib.Omega.{arith}
 use Rattle.bitstream.specs.Outcome.{value}
-use Rattle.bitstream.specs.Reading.{outcome_u}
+use Rattle.aps.specs.Inner.{outcome_u}
 use Rattle.aps.specs.Codec.{ue}
 use Rattle.aps.proofs.Answers.{answered}
 use Rattle.aps.proofs.FieldLaws.{ue-law}

@@ -7,7 +7,7 @@ use mir.Syntax.{w32}
 use mir.Val.{to_z, of_z, SFits}
 use mir.Facts.{to_z-of_z}
 use Rattle.bitstream.specs.Outcome.{value}
-use Rattle.bitstream.specs.Reading.{outcome_s}
+use Rattle.aps.specs.Inner.{outcome_s}
 use Rattle.aps.proofs.SignedLaws.{abs-fits, add-abs}
 use Rattle.aps.proofs.Gives.{given}
 use Rattle.aps.proofs.ScalingSteps.{se8, Small, se8-small, step-refused, step_value}

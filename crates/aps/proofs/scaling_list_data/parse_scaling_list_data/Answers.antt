@@ -26,7 +26,7 @@ loop-id-init c =
     keeping_start _ _ _ _ _ _ _ _ z.1 z.2 z.3 z.4 z.5 z.6
 
 pub read_id-read-requires : goal.read_id-read-requires
-read_id-read-requires c = (c.requires.0, c.loop-id.invariant.near, c.loop-id-test.true, c.short_codes-codes.ensures)
+read_id-read-requires c = (c.requires.0, c.loop-id.invariant.near, c.loop-id-test.true)
 
 pub returns-in-Refused : goal.returns-in-Refused
 returns-in-Refused c =

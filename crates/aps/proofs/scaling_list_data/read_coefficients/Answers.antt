@@ -4,7 +4,7 @@ use mathlib.Core.Path.{◌≡◌, sym, ap, ◌∙◌}
 use mir.Syntax.{w32}
 use mir.Val.{to_z, of_z}
 use Rattle.bitstream.specs.Outcome.{value}
-use Rattle.bitstream.specs.Reading.{outcome_s}
+use Rattle.aps.specs.Inner.{outcome_s}
 use Rattle.aps.specs.ScalingSyntax.{dc_at}
 use Rattle.aps.proofs.CodecLaws.{when-law, inside}
 use Rattle.aps.proofs.ScalingLaws.{just-is, se8-law}
@@ -28,7 +28,7 @@ pub read_steps-stop-requires : goal.read_steps-stop-requires
 read_steps-stop-requires c =
     let a = c.args in
     let b = c.requires in
-    (b.0, inside (when-law (ltb 13 a.id) (just-is (pos 0)) λ t. se8-law) _ _ _ _ (told (goal.at.read_steps-stop-requires c).In-Value) b.1, b.2, rw (dc-is (goal.at.read_steps-stop-requires c).In-Value) (given Small (told (goal.at.read_steps-stop-requires c).In-Value) (dc-small a.id a.bytes.now a.p)), b.3)
+    (b.0, inside (when-law (ltb 13 a.id) (just-is (pos 0)) λ t. se8-law) _ _ _ _ (told (goal.at.read_steps-stop-requires c).In-Value) b.1, b.2, rw (dc-is (goal.at.read_steps-stop-requires c).In-Value) (given Small (told (goal.at.read_steps-stop-requires c).In-Value) (dc-small a.id a.bytes.now a.p)))
 
 pub returns-in-Value : goal.returns-in-Value
 returns-in-Value c =

@@ -4,7 +4,7 @@ use mathlib.Core.Path.{◌≡◌, sym, ap, ◌∙◌}
 use mathlib.Core.Bool.{true, not, ◌&&◌, ◌||◌}
 use lib.Dec.{eqb}
 use Rattle.bitstream.specs.Outcome.{value}
-use Rattle.bitstream.specs.Reading.{outcome_u}
+use Rattle.aps.specs.Inner.{outcome_u}
 use Rattle.aps.specs.Codec.{ue}
 use Rattle.aps.proofs.FieldSteps.{ue_to-read}
 use Rattle.aps.proofs.Steps.{when-read}

@@ -7,7 +7,7 @@ use lib.ListN.{length}
 use mir.Syntax.{w32}
 use mir.Facts.{to_z-of_z}
 use Rattle.bitstream.specs.Outcome.{value}
-use Rattle.bitstream.specs.Reading.{outcome_u}
+use Rattle.aps.specs.Inner.{outcome_u}
 use Rattle.aps.specs.Elements.{flag}
 use Rattle.aps.specs.ScalingSyntax.{delta_at}
 use Rattle.aps.proofs.FieldLaws.{lacks-none}
@@ -57,7 +57,7 @@ pub read_delta-field-requires : goal.read_delta-field-requires
 read_delta-field-requires c =
     let copy-there : c.args.p + 1 ≤ length c.args.bytes.now * 8 = lacks-none _ _ 1 (omega arith) (sym c.lacks_bits.ensures ∙ c.if-lacks_bits.false) in
     let b = c.requires in
-    (b.0, copy-there, b.2, b.3)
+    (b.0, copy-there, b.2)
 
 pub returns-in-Value : goal.returns-in-Value
 returns-in-Value c =
@@ -78,12 +78,12 @@ returns-then-lacks_bits-2 c =
 pub read_delta-field-requires-2 : goal.read_delta-field-requires-2
 read_delta-field-requires-2 c =
     let b = c.requires in
-    (b.0, (pred-there c), b.2, b.3)
+    (b.0, (pred-there c), b.2)
 
 pub read_coefficients-read-requires : goal.read_coefficients-read-requires
 read_coefficients-read-requires c =
     let b = c.requires in
-    (b.0, (near (goal.at.read_coefficients-read-requires c).In-Value-field), b.2, b.3)
+    (b.0, (near (goal.at.read_coefficients-read-requires c).In-Value-field), b.2)
 
 pub returns-in-Value-field : goal.returns-in-Value-field
 returns-in-Value-field c =

@@ -5,7 +5,7 @@ use mir.Syntax.{w32}
 use mir.Val.{to_z, of_z}
 use Rattle.bitstream.specs.Outcome.{value}
 use Rattle.aps.specs.Elements.{se}
-use Rattle.bitstream.specs.Reading.{outcome_s}
+use Rattle.aps.specs.Inner.{outcome_s}
 use Rattle.aps.proofs.ScalingSteps.{se8-refused, se8-low, se8-high, se8-in}
 use Rattle.std.proofs.lemmas.Int.{to_z-of_z as to_z-of_z'}
 use Rattle.aps.proofs.scaling_list_data.read_se8.Goals as goal

@@ -36,7 +36,7 @@ pub held_step-field-requires : goal.held_step-field-requires
 held_step-field-requires c =
     let o = c.loop-i in
     let k = (few (goal.at.held_step-field-requires c).After-matrix_entries-n) in
-    (c.requires.0, o.invariant.1, o.invariant.0.near, omega arith, omega (arith, o.invariant.0.small), c.requires.4)
+    (c.requires.0, o.invariant.1, o.invariant.0.near, omega arith, omega (arith, o.invariant.0.small))
 
 pub overflow_add-v : goal.overflow_add-v
 overflow_add-v c = omega (arith, (few (goal.at.overflow_add-v c).After-matrix_entries-n))

@@ -16,4 +16,4 @@ unfolding look_code set_left
 returns-in-Refused c =
     let r = c.lookup-found in
     let o = sym (ap (λ x. lookup_says x r.result.set) c.in-Refused.is) ∙ r.ensures.answer in
-    record { code = c.number.ensures ∙ ap look_code o; set = ap (λ x. set_left x c.args.set.now) o }
+    record { code = c.into.ensures ∙ ap look_code o; set = ap (λ x. set_left x c.args.set.now) o }

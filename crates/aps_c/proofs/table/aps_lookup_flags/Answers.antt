@@ -25,4 +25,4 @@ returns-in-Refused c =
     let b = c.args in
     let a = set_looked (looked_up b.table.now b.kind b.id) in
     let o = sym (ap (λ x. lookup_says x a) c.in-Refused.is) ∙ r.ensures.answer in
-    record { code = c.number.ensures ∙ ap look_code o; flags = ap (λ x. flags_left x c.args.flags.now) o }
+    record { code = c.into.ensures ∙ ap look_code o; flags = ap (λ x. flags_left x c.args.flags.now) o }

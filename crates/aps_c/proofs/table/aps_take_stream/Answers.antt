@@ -18,4 +18,4 @@ returns-in-Refused c =
     let a = c.args in
     let e = c.take_stream.ensures in
     let o = sym (ap stream_answer c.in-Refused.is) ∙ e.answer in
-    record { code = c.number.ensures ∙ ap answer_code o; counts = ap (λ x. counts_left x a.counts.now) o; table = e.table; work = e.work }
+    record { code = c.into.ensures ∙ ap answer_code o; counts = ap (λ x. counts_left x a.counts.now) o; table = e.table; work = e.work }

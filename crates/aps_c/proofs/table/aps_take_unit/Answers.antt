@@ -20,4 +20,4 @@ pub returns-in-Refused : goal.returns-in-Refused
 unfolding answer_code
 returns-in-Refused c =
     let t = c.take_unit.ensures in
-    record { code = c.number.ensures ∙ ap answer_code (sym (ap unit_answer c.in-Refused.is) ∙ t.answer); table = t.table; work = t.work }
+    record { code = c.into.ensures ∙ ap answer_code (sym (ap unit_answer c.in-Refused.is) ∙ t.answer); table = t.table; work = t.work }

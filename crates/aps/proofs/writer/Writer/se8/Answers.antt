@@ -15,17 +15,17 @@ returns-then-v-ltminus128-clause-wrote c =
       | then-v-ltminus128-via-else-v-ltminus128+then-v-gt127 w ↦ wrote-not (se8-high c.args.v (rw (to_z-of_z c.ranges.v) at w.if-v-gt127.true))
     ]
 
-pub returns-in-To : goal.returns-in-To
-returns-in-To c =
+pub returns : goal.returns
+returns c =
     let a = c.args in
     let low = rw (to_z-of_z c.ranges.v) at c.if-v-ltminus128.false in
     let high = rw (to_z-of_z c.ranges.v) at c.if-v-gt127.false in
-    let e = (rw (to_z-of_z c.ranges.v) at c.in-To.ensures.answer) ∙ se8-wrote a.v low high a.self.now.buffer a.self.now.at (omega arith) (omega arith) in
+    let e = (rw (to_z-of_z c.ranges.v) at c.in_ok-end.ensures.answer) ∙ se8-wrote a.v low high a.self.now.buffer a.self.now.at (omega arith) (omega arith) in
     record { wrote = wrote-taken (se8-fits a.v low high) e; within = omega (arith, field-end e, se8-bits a.v low high) }
 
-pub returns-in-Refused-clause-wrote : goal.returns-in-Refused-clause-wrote
-returns-in-Refused-clause-wrote c =
+pub returns-in_err-end-clause-wrote : goal.returns-in_err-end-clause-wrote
+returns-in_err-end-clause-wrote c =
     let a = c.args in
     let low = rw (to_z-of_z c.ranges.v) at c.if-v-ltminus128.false in
     let high = rw (to_z-of_z c.ranges.v) at c.if-v-gt127.false in
-    absurd (value-refused (sym ((rw (to_z-of_z c.ranges.v) at c.in-Refused.ensures.answer) ∙ se8-wrote a.v low high a.self.now.buffer a.self.now.at (omega arith) (omega arith))))
+    absurd (value-refused (sym ((rw (to_z-of_z c.ranges.v) at c.in_err-end.ensures.answer) ∙ se8-wrote a.v low high a.self.now.buffer a.self.now.at (omega arith) (omega arith))))

@@ -5,7 +5,7 @@ use Rattle.aps.proofs.FieldWrites.{field-end, trailing-wrote}
 use Rattle.bitstream.proofs.WriteLaws.{length-trailing}
 use Rattle.aps.proofs.writer.Writer.trailing_bits.Goals as goal
 
-pub returns-in-To-clause-within : goal.returns-in-To-clause-within
-returns-in-To-clause-within c =
+pub returns-clause-within : goal.returns-clause-within
+returns-clause-within c =
     let s = c.args.self.now in
-    omega (arith, field-end (c.in-To.ensures.answer ∙ trailing-wrote s.buffer s.at (omega arith, omega arith)), length-trailing s.at)
+    omega (arith, field-end (c.in_ok-end.ensures.answer ∙ trailing-wrote s.buffer s.at (omega arith, omega arith)), length-trailing s.at)

@@ -9,16 +9,16 @@ use Rattle.aps.proofs.writer.Writer.u.Goals as goal
 pub returns-then-n-v-clause-wrote : goal.returns-then-n-v-clause-wrote
 returns-then-n-v-clause-wrote c = wrote-not (u-wide c.args.n c.args.v (omega (arith, limit c.args.n c.requires.1)))
 
-pub returns-in-To : goal.returns-in-To
-returns-in-To c =
+pub returns : goal.returns
+returns c =
     let a = c.args in
-    let e = c.in-To.ensures.answer ∙ u-wrote a.n a.v a.self.now.buffer a.self.now.at (omega arith) c.requires.1 (omega arith) in
+    let e = c.in_ok-end.ensures.answer ∙ u-wrote a.n a.v a.self.now.buffer a.self.now.at (omega arith) c.requires.1 (omega arith) in
     record {
       wrote = wrote-taken (u-fits a.n a.v (omega (arith, limit a.n c.requires.1))) e;
       within = omega (arith, field-end e, u-bits a.n a.v);
     }
 
-pub returns-in-Refused-clause-wrote : goal.returns-in-Refused-clause-wrote
-returns-in-Refused-clause-wrote c =
+pub returns-in_err-end-clause-wrote : goal.returns-in_err-end-clause-wrote
+returns-in_err-end-clause-wrote c =
     let a = c.args in
-    absurd (value-refused (sym (c.in-Refused.ensures.answer ∙ u-wrote a.n a.v a.self.now.buffer a.self.now.at (omega arith) c.requires.1 (omega arith))))
+    absurd (value-refused (sym (c.in_err-end.ensures.answer ∙ u-wrote a.n a.v a.self.now.buffer a.self.now.at (omega arith) c.requires.1 (omega arith))))

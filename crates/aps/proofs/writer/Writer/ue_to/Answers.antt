@@ -10,18 +10,18 @@ use Rattle.aps.proofs.writer.Writer.ue_to.Goals as goal
 pub returns-then-most-v-clause-wrote : goal.returns-then-most-v-clause-wrote
 returns-then-most-v-clause-wrote c = wrote-not (ue_to-wide c.args.most c.args.v (omega arith))
 
-pub returns-in-To : goal.returns-in-To
-returns-in-To c =
+pub returns : goal.returns
+returns c =
     let a = c.args in
     let l : a.v ≤ a.most = omega arith in
-    let e = c.in-To.ensures.answer ∙ ue_to-wrote a.self.now.buffer a.self.now.at a.most a.v (omega arith) (omega arith) (omega arith) in
+    let e = c.in_ok-end.ensures.answer ∙ ue_to-wrote a.self.now.buffer a.self.now.at a.most a.v (omega arith) (omega arith) (omega arith) in
     record {
       wrote = wrote-taken (ue_to-fits a.most a.v c.requires.1 l) e;
       within = omega (arith, field-end e, ue_to-bits a.most a.v c.requires.1 l);
       taken = l;
     }
 
-pub returns-in-Refused-clause-wrote : goal.returns-in-Refused-clause-wrote
-returns-in-Refused-clause-wrote c =
+pub returns-in_err-end-clause-wrote : goal.returns-in_err-end-clause-wrote
+returns-in_err-end-clause-wrote c =
     let a = c.args in
-    absurd (value-refused (sym (c.in-Refused.ensures.answer ∙ ue_to-wrote a.self.now.buffer a.self.now.at a.most a.v (omega arith) (omega arith) (omega arith))))
+    absurd (value-refused (sym (c.in_err-end.ensures.answer ∙ ue_to-wrote a.self.now.buffer a.self.now.at a.most a.v (omega arith) (omega arith) (omega arith))))

@@ -1,0 +1,205 @@
+// The fields of an input of at most 65,536 bytes, one after another.
+ghost use Rattle.std.specs.Prelude.{◌≡◌, false, cond, ◌+◌, ◌*◌, ◌≤◌, ◌<◌, eqb, ltb, length};
+ghost use Rattle.bitstream.specs.Windows.{IsWindow};
+
+use crate::fields::se_of;
+use bitstream::Refusal;
+use bitstream::bit_reader::BitReader;
+use bitstream::short_codes::CodeTable;
+use bitstream::window::window;
+
+// The `left` highest of `bits` are the bits from bit `at` on, zeros past the end.
+pub(crate) struct Reader<'a> {
+    bytes: &'a [u8],
+    at: usize,
+    bits: u64,
+    left: u64,
+    ghost short: { length bytes.now ≤ 65536 },
+    ghost inside: { at ≤ length bytes.now * 8 },
+    ghost known: { IsWindow bytes.now at left bits },
+}
+
+impl<'a> Reader<'a> {
+    ghost use Rattle.std.specs.Prelude.{pos, negsuc};
+    ghost use Rattle.aps.specs.Codec.{u, ue};
+    ghost use Rattle.aps.specs.Elements.{flag, ue_to, se_in, signed};
+    ghost use Rattle.aps.specs.AlfSyntax.{coefficient};
+    ghost use Rattle.aps.specs.Reads.{given, Reads, Stands};
+
+    // From bit `at` on.
+    pub(crate) fn new(bytes: &'a [u8], at: usize) -> Self
+        requires { (length bytes.now ≤ 65536) × (at ≤ length bytes.now * 8) }
+        ensures { (result.bytes.now ≡ bytes.now) × (result.at ≡ at) }
+    {
+        Reader {
+            bytes,
+            at,
+            bits: 0,
+            left: 0,
+        }
+    }
+
+    // The bit where the next field stands.
+    pub(crate) fn at(&self) -> usize
+        ensures { result ≡ self.now.at }
+    {
+        self.at
+    }
+
+    // The same place with `need` bits or more.
+    fn fill(&mut self, need: u64)
+        requires { need ≤ 57 }
+        ensures { Stands self.old self.new × (need ≤ self.new.left) }
+    {
+        if self.left < need {
+            self.bits = window(self.bytes, self.at);
+            self.left = 57;
+        }
+    }
+
+    // Whether n bits pass the input's end.
+    fn lacks(&self, n: u64) -> bool
+        requires { n ≤ 64 }
+        ensures { result ≡ ltb (length self.now.bytes.now * 8) (self.now.at + n) }
+    {
+        self.bytes.len() * 8 < self.at + n as usize
+    }
+
+    // n bits on; `most` are counted off, so that the word is filled again after as many fields whatever their bits are.
+    fn pass(&mut self, n: u64, most: u64)
+        requires { (n ≤ most) × (most ≤ self.old.left) × (most ≤ 57) × (self.old.at + n ≤ length self.old.bytes.now * 8) }
+        ensures { (self.new.bytes.now ≡ self.old.bytes.now) × (self.new.at ≡ self.old.at + n) }
+    {
+        self.bits = self.bits << n;
+        self.left -= most;
+        self.at += n as usize;
+    }
+
+    // u(n), 1 <= n <= 32.
+    pub(crate) fn u(&mut self, n: u32, most: u64) -> Result<u32, Refusal>
+        requires { (1 ≤ n) × (n ≤ most) × (most ≤ 32) }
+        ensures { Reads (u n) (given result self.new.at) self.old self.new }
+    {
+        let width = n as u64;
+        self.fill(most);
+        if self.lacks(width) {
+            return Err(Refusal::UnexpectedEnd);
+        }
+        let value = (self.bits >> (64 - width)) as u32;
+        self.pass(width, most);
+        Ok(value)
+    }
+
+    // u(1) as a flag.
+    pub(crate) fn flag(&mut self) -> Result<bool, Refusal>
+        ensures { Reads flag (given result self.new.at) self.old self.new }
+    {
+        let bit = self.u(1, 1)?;
+        Ok(bit != 0)
+    }
+
+    // A magnitude u(n), and its sign if it is not 0.
+    pub(crate) fn signed(&mut self, n: u32) -> Result<(u32, bool), Refusal>
+        requires { (1 ≤ n) × (n ≤ 16) }
+        ensures { Reads (signed (u n)) (given result self.new.at) self.old self.new }
+    {
+        let width = n as u64;
+        self.fill(width + 1);
+        let abs = (self.bits >> (64 - width)) as u32;
+        let sent = sign_bits(abs);
+        if self.lacks(width + sent) {
+            return Err(Refusal::UnexpectedEnd);
+        }
+        let sign = (self.bits >> (63 - width)) % 2 * sent == 1;
+        self.pass(width + sent, width + 1);
+        Ok((abs, sign))
+    }
+
+    // ue(v), of any length.
+    pub(crate) fn ue(&mut self) -> Result<u32, Refusal>
+        ensures { Reads ue (given result self.new.at) self.old self.new }
+    {
+        let field = (BitReader { bit_pos: self.at }).ue(self.bytes)?;
+        if field.lacking {
+            return Err(Refusal::UnexpectedEnd);
+        }
+        self.at = field.next.bit_pos;
+        self.left = 0;
+        Ok(field.value)
+    }
+
+    // ue(v), looked for in the table first.
+    pub(crate) fn ue_by(&mut self, codes: &CodeTable) -> Result<u32, Refusal>
+        ensures { Reads ue (given result self.new.at) self.old self.new }
+    {
+        self.fill(17);
+        if let Some(code) = codes.code(self.bits) {
+            if !self.lacks(code.bits) {
+                self.pass(code.bits, 17);
+                return Ok(code.value);
+            }
+        }
+        self.ue()
+    }
+
+    // ue(v) in 0..most.
+    pub(crate) fn ue_to(&mut self, codes: &CodeTable, most: u32) -> Result<u32, Refusal>
+        ensures { Reads (ue_to most) (given result self.new.at) self.old self.new }
+    {
+        let value = self.ue_by(codes)?;
+        if most < value {
+            return Err(Refusal::InvalidData);
+        }
+        Ok(value)
+    }
+
+    // se(v) in -128..127.
+    pub(crate) fn se8(&mut self, codes: &CodeTable) -> Result<i32, Refusal>
+        ensures { Reads (se_in (negsuc 127) (pos 127)) (given result self.new.at) self.old self.new }
+    {
+        let k = self.ue_by(codes)?;
+        if 254 < k && k != 256 {
+            return Err(Refusal::InvalidData);
+        }
+        Ok(se_of(k))
+    }
+
+    // A magnitude in 0..128, and its sign if it is not 0: at most 17 bits and the sign, which is sent unless the first bit is 1.
+    pub(crate) fn coefficient(&mut self, codes: &CodeTable) -> Result<(u32, bool), Refusal>
+        ensures { Reads coefficient (given result self.new.at) self.old self.new }
+    {
+        self.fill(18);
+        let sent = 1 - (self.bits >> 63);
+        if let Some(code) = codes.code(self.bits) {
+            let size = code.bits;
+            let abs = code.value;
+            if abs <= 128 {
+                if !self.lacks(size + sent) {
+                    let sign = (self.bits >> (63 - size)) % 2 * sent == 1;
+                    self.pass(size + sent, 18);
+                    return Ok((abs, sign));
+                }
+            }
+        }
+        self.long_coefficient(codes)
+    }
+
+    // One that the word does not hold, or that is refused.
+    fn long_coefficient(&mut self, codes: &CodeTable) -> Result<(u32, bool), Refusal>
+        ensures { Reads coefficient (given result self.new.at) self.old self.new }
+    {
+        let abs = self.ue_to(codes, 128)?;
+        if abs == 0 {
+            return Ok((abs, false));
+        }
+        let sign = self.flag()?;
+        Ok((abs, sign))
+    }
+}
+
+// The bits of the sign of a magnitude.
+fn sign_bits(abs: u32) -> u64
+    ensures { (result ≡ cond (eqb abs 0) 0 1) × (result ≤ 1) }
+{
+    if abs == 0 { 0 } else { 1 }
+}
