@@ -36,10 +36,6 @@ pub mod UnitSteps
 pub mod WriterLaws
 pub mod FieldWrites
 pub mod EntryWrites
-pub mod WriteSteps
-pub mod SentWrites
-pub mod PutLaws
-pub mod ArrayWrites
 pub mod AlfFilters
 pub mod AlfWrites
 pub mod LmcsWrites

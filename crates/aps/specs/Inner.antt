@@ -46,10 +46,6 @@ abbrev pub StopsBy : Stop → ℕ → Type 0
 StopsBy (Stop.End p) m = p ≤ m
 StopsBy (Stop.Refused e) m = Unit {0}
 
--- from one stop to the next there are at most n bits
-abbrev pub Spans : Stop → Stop → ℕ → Type 0
-Spans from to n = (m : ℕ) → StopsBy from m → StopsBy to (m + n)
-
 -- ---- reading
 
 -- a value and the bit after it; 1 where that passes the input's end
@@ -169,26 +165,3 @@ Unwrapped (Err e) o work = o ≡ refused (number e)
 abbrev pub outcome_admission : Admission → Outcome (Unit {0})
 outcome_admission Admission.Aps = value tt 16
 outcome_admission (Admission.Refused e) = refused (number e)
-
--- ---- writing
-
-module _ {A : Type 0} where
-  -- the bits of a put into out from bit p on; 2: a is not taken
-  unfoldable pub writes : Codec A → A → List ℕ → ℕ → Outcome (List ℕ)
-  writes c a out p = cond (c.ok a) (value (put_bits out p (c.emit a)) (p + length (c.emit a))) (refused 2)
-
--- from one stop to the next a was written so, in at most m bits
-pub record Wrote {A : Type 0} (c : Codec A) (a : A) (m : ℕ) (from to : Stop) (out out' : List ℕ) : Type 0 where
-  pub answer : outcome_stop to out' ≡ after from (writes c a out)
-  pub within : Spans from to m
-
--- where nothing is sent: the stop stays if the value is the inferred one
-abbrev pub unsent : Stop → Bool → Stop
-unsent (Stop.End p) true = Stop.End p
-unsent (Stop.End p) false = Stop.Refused InvalidData
-unsent (Stop.Refused e) b = Stop.Refused e
-
--- the bytes of a buffer that an answer says were written
-abbrev pub first_bytes : Result ℕ Refusal → List ℕ → List ℕ
-first_bytes (Ok n) l = take n l
-first_bytes (Err e) l = []

@@ -34,7 +34,7 @@ returns-in_err-read_indexes c =
 pub read_coefficients-requires : goal.read_coefficients-requires
 read_coefficients-requires c =
     let (i, a, s, k) = blank-luma c.requires in
-    rw (a, s) (omega (arith, reads-most 24 c.in_ok-count_minus1.ensures), refl, refl, c.requires.1)
+    rw (a, s) (omega (arith, reads-most 24 c.in_ok-count_minus1.ensures), refl, refl)
 
 pub returns-in_err-read_coefficients : goal.returns-in_err-read_coefficients
 unfolding luma_syntax
@@ -55,7 +55,7 @@ pub returns-in_err-read_clips : goal.returns-in_err-read_clips
 unfolding luma_syntax
 returns-in_err-read_clips c =
     let n : length c.args.filters.now.coeff_abs ≡ 300 = ap (λ (l : List ℕ). length l) (blank-luma c.requires).1 in
-    let m : length c.args.filters.now.clip_idx ≡ 300 = ap (λ (l : List ℕ). length l) (blank-luma c.requires.0).3 in
+    let m : length c.args.filters.now.clip_idx ≡ 300 = ap (λ (l : List ℕ). length l) (blank-luma c.requires).3 in
     let r = rw (n, luma-coefficients c.in_ok-count_minus1.count_minus1) at c.in_ok-read_coefficients.ensures in
     let s = rw (m, luma-clips c.in_ok-count_minus1.count_minus1 _ _ c.clips_sent-rows.ensures.0) at c.in_err-read_clips.ensures in
     fills-exit _ _ _ _ c.from_residual-in_err-read_clips.ensures.1
@@ -65,7 +65,7 @@ pub returns : goal.returns
 unfolding luma_syntax to_luma
 returns c =
     let n : length c.args.filters.now.coeff_abs ≡ 300 = ap (λ (l : List ℕ). length l) (blank-luma c.requires).1 in
-    let m : length c.args.filters.now.clip_idx ≡ 300 = ap (λ (l : List ℕ). length l) (blank-luma c.requires.0).3 in
+    let m : length c.args.filters.now.clip_idx ≡ 300 = ap (λ (l : List ℕ). length l) (blank-luma c.requires).3 in
     let r = rw (n, luma-coefficients c.in_ok-count_minus1.count_minus1) at c.in_ok-read_coefficients.ensures in
     let s = rw (m, luma-clips c.in_ok-count_minus1.count_minus1 _ _ c.clips_sent-rows.ensures.0) at c.in_ok-read_clips.ensures in
     luma-sent c.if-not-signal.false (reads-▷ _ c.in_ok-clip.ensures (reads-▷ _ c.in_ok-count_minus1.ensures (reads-▷ _ c.in_ok-read_indexes.ensures (reads-▷ _ r s))))
