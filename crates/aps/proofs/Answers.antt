@@ -36,14 +36,6 @@ pub refused-parts : {end : ApsOutcome} {h : ApsHead} {d : VvcAlfData} {l : VvcLm
 unfolding empty_set
 refused-parts why (e, h, d, l, c) f a g = rw (g, e, h, d, l, c) (sym f, ap set_given (sym f))
 
--- a set that was read to its end
-pub ended-parts : {kind : ApsKind} {id : ℕ} {chroma x : Bool} {d : VvcAlfData} {l : VvcLmcsData} {c : VvcScalingListData} {q : ℕ} {o : Outcome VvcAps}
-    → value (with_extension (set_of kind id chroma d l c) x) q ≡ o → (h : ApsHead)
-    → h ≡ record { kind = kind; aps_adaptation_parameter_set_id = id; aps_chroma_present_flag = chroma; aps_extension_flag = x }
-    → (a : VvcAps) → a ≡ assembled h d l c → (outcome_read (Aps.Read q) a ≡ o) × (a ≡ set_given o)
-unfolding with_extension
-ended-parts e h f a g = rw (g, f) (e, ap set_given e)
-
 -- what an answer says of each part
 module _ (o : ApsOutcome) (h : ApsHead) (d : VvcAlfData) (l : VvcLmcsData) (c : VvcScalingListData) (s : List ℕ) (e : Assembles o h d l c s) where
   pub heads : (outcome_read o (set_given (read_rbsp s)) ≡ read_rbsp s) × (h ≡ head_of (set_given (read_rbsp s)))

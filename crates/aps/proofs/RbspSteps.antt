@@ -165,12 +165,6 @@ ended-finished s a q = first (flag.read s q)
     first (value x r) = last x r (read_trailing s r)
     first (refused n) = refl
 
-module _ (a : VvcAps) (x : Bool) (end : ApsOutcome) {o o' : Outcome VvcAps} (f : outcome_read end (with_extension a x) ≡ o) (g : o' ≡ o) where
-  pub set_ended : (q : ℕ) → end ≡ Aps.Read q → (value (with_extension a x) q ≡ o') × (with_extension a x ≡ set_given o')
-  set_ended q e = let k = sym (answered (λ r. outcome_read r (with_extension a x)) e (f ∙ sym g)) in (k, ap set_given k)
-
-  pub set-refused : (why : Refusal) → end ≡ Aps.Refused why → o' ≡ refused (number why)
-  set-refused why e = answered (λ r. outcome_read r (with_extension a x)) e (f ∙ sym g)
 
 -- a set whose payload was read: what closes it, or why it is refused
 module _ (s : List ℕ) (set : VvcAps) (q : ℕ) (e : read_rbsp s ≡ finished s set q) where
