@@ -1,6 +1,6 @@
 -- A turn of the loop over the clips: six fields of two bits out of one of twelve.
-use mathlib.Core.Path.{◌≡◌, refl, sym, ap, ◌∙◌}
-use mathlib.Core.Bool.{Bool, true, false, cond}
+use mathlib.Core.Path.{◌≡◌, sym, ap, ◌∙◌}
+use mathlib.Core.Bool.{true, false}
 use mathlib.Core.List.{List}
 use Prim.Native.Nat.{ℕ, suc, ◌+◌, ◌-◌, ◌/◌, ◌%◌, ◌^◌, ◌≤◌, ◌<◌}
 use native.Mathlib.Nat.{add-zero, zero-add}
@@ -14,14 +14,13 @@ use lib.Seq.{sets}
 use Rattle.bitstream.specs.Outcome.{value, refused}
 use Rattle.bitstream.specs.Bits.{field_at}
 use Rattle.bitstream.specs.Fields.{lacks}
-use Rattle.bitstream.proofs.CodeLaws.{value-refused}
 use Rattle.bitstream.proofs.FieldLaws.{field_lt, field-add}
 use Rattle.aps.specs.Codec.{Codec, u, when, each}
 use Rattle.aps.specs.Elements.{no_number}
 use Rattle.aps.specs.Inner.{six_of}
 use Rattle.aps.specs.Reads.{Reads}
 use Rattle.aps.specs.declared.reader.Reader.{Reader}
-use Rattle.aps.proofs.FieldSteps.{lacks-part, u-read, u-here, each-lacking}
+use Rattle.aps.proofs.FieldSteps.{lacks-part, u-here, u-there, u-none, each-lacking}
 use Rattle.aps.proofs.ReaderLaws.{Filling}
 use Rattle.aps.proofs.Steps.{when-read, Reading, reading-more, each-split}
 
@@ -34,21 +33,6 @@ field-part : (s : List ℕ) (p k n m : ℕ) → field_at s p (k + n + m) / 2 ^ m
 field-part s p k n m =
     rw (field-add s p (k + n) m, high (field_at s p (k + n)) m (field_lt s (p + (k + n)) m), field-add s p k n)
     (low (field_at s p k) n (field_lt s (p + k) n))
-
--- a field that is given has its bits
-u-there : (n : ℕ) (s : List ℕ) (p : ℕ) {v q : ℕ} → value v q ≡ (u n).read s p → (lacks s p n ≡ false) × (v ≡ field_at s p n) × (q ≡ p + n)
-u-there n s p {v} {q} e = go (lacks s p n) refl (e ∙ u-read n s p)
-  where
-    go : (b : Bool) → lacks s p n ≡ b → value v q ≡ cond b (refused 1) (value (field_at s p n) (p + n)) → (lacks s p n ≡ false) × (v ≡ field_at s p n) × (q ≡ p + n)
-    go true f g = absurd (value-refused g)
-    go false f g = (f, cc, cc)
-
-u-none : (n : ℕ) (s : List ℕ) (p : ℕ) {m : ℕ} → refused m ≡ (u n).read s p → (lacks s p n ≡ true) × (m ≡ 1)
-u-none n s p {m} e = go (lacks s p n) refl (e ∙ u-read n s p)
-  where
-    go : (b : Bool) → lacks s p n ≡ b → refused m ≡ cond b (refused 1) (value (field_at s p n) (p + n)) → (lacks s p n ≡ true) × (m ≡ 1)
-    go true f g = (f, cc)
-    go false f g = absurd (value-refused (sym g))
 
 module _ (n N : ℕ) (l : n ≤ N) where
   module _ (s : List ℕ) (p q : ℕ) where

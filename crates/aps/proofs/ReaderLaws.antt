@@ -39,12 +39,15 @@ stays = record { bytes = refl; place = refl }
 pub given-exit : {A : Type 0} (r : Result A Refusal) (e : Refusal) (q : ℕ) {o : Outcome A} → IsErrAnd r (λ y. y ≡ e) → refused (number e) ≡ o → given r q ≡ o
 given-exit r e q h k = let p = err_from_is_err_and r h in rw (p.1, p.2) k
 
+pub filled-exit : {T A : Type 0} (r : Result T Refusal) (e : Refusal) (a : A) (q : ℕ) {o : Outcome A} → IsErrAnd r (λ y. y ≡ e) → refused (number e) ≡ o → filled r a q ≡ o
+filled-exit r e a q h k = let p = err_from_is_err_and r h in rw (p.1, p.2) k
+
 module _ {A : Type 0} {c : Codec A} {w0 w1 : Reader} where
   pub reads-exit : (r : Result A Refusal) (e : Refusal) (q : ℕ) → IsErrAnd r (λ y. y ≡ e) → Reads c (refused (number e)) w0 w1 → Reads c (given r q) w0 w1
-  reads-exit r e q h k = let p = err_from_is_err_and r h in rw (p.1, p.2) k
+  reads-exit r e q h k = record { field = given-exit r e q h k.field; bytes = k.bytes }
 
   pub fills-exit : {T : Type 0} (r : Result T Refusal) (e : Refusal) (a : A) (q : ℕ) → IsErrAnd r (λ y. y ≡ e) → Reads c (refused (number e)) w0 w1 → Reads c (filled r a q) w0 w1
-  fills-exit r e a q h k = let p = err_from_is_err_and r h in rw (p.1, p.2) k
+  fills-exit r e a q h k = record { field = filled-exit r e a q h k.field; bytes = k.bytes }
 
   -- a reader at the same place
   pub reads-from : {o : Outcome A} {w2 : Reader} → Stands w0 w1 → Reads c o w1 w2 → Reads c o w0 w2

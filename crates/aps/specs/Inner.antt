@@ -1,14 +1,15 @@
 -- For the proofs' sake: what the inner functions promise each other on the way. No public contract says anything of this file.
-use Rattle.std.specs.Prelude.{◌≡◌, Bool, true, false, cond, not, List, [], ◌∷◌, ℕ, ◌+◌, ◌*◌, ◌/◌, ◌%◌, ◌^◌, ◌≤◌, eqb, ltb, length, take}
+use Rattle.std.specs.Prelude.{◌≡◌, Bool, true, false, cond, not, List, [], ◌∷◌, ℕ, ◌+◌, ◌*◌, ◌/◌, ◌%◌, ◌^◌, ◌≤◌, ◌<◌, Result, Ok, Err, eqb, ltb, length, take}
 use Rattle.bitstream.specs.Outcome.{Outcome, value, refused, number, ◌then◌}
 use Rattle.bitstream.specs.Bits.{field_at, put_bits}
 use Rattle.bitstream.specs.Fields.{lacks, read_trailing}
 use Rattle.bitstream.specs.Windows.{IsWindow}
-use Rattle.bitstream.specs.declared.Refusal.TheVariants.{InvalidData}
+use Rattle.bitstream.specs.declared.Refusal.{Refusal}
+use Rattle.bitstream.specs.declared.Refusal.TheVariants.{InvalidData, Unsupported}
 use Rattle.bitstream.specs.declared.nal.Size.{Size}
 use Rattle.aps.specs.Codec.{Codec}
 use Rattle.aps.specs.Elements.{flag}
-use Rattle.aps.specs.ApsSyntax.{zero_alf, zero_lmcs, zero_scaling}
+use Rattle.aps.specs.ApsSyntax.{number_of, zero_alf, zero_lmcs, zero_scaling}
 use Rattle.aps.specs.Rbsp.{closed, read_rbsp, parse_aps_rbsp}
 use Rattle.aps.specs.Reading.{outcome_read, set_given, head_of}
 use Rattle.aps.specs.declared.fields.Stop.{Stop}
@@ -26,7 +27,7 @@ use Rattle.aps.specs.declared.aps.ApsOutcome.{ApsOutcome}
 use Rattle.aps.specs.declared.aps.ApsKind.{ApsKind}
 use Rattle.aps.specs.declared.aps.ApsHead.{ApsHead}
 use Rattle.aps.specs.declared.aps.HeadReading.{HeadReading}
-use Rattle.aps.specs.declared.aps.Opening.{Opening}
+use Rattle.aps.specs.declared.reader.Reader.{Reader}
 use Rattle.aps.specs.declared.alf_set.AlfReading.{AlfReading}
 use Rattle.aps.specs.declared.lmcs_set.LmcsReading.{LmcsReading}
 use Rattle.aps.specs.declared.scaling_set.ScalingReading.{ScalingReading}
@@ -161,12 +162,19 @@ ReadsScaling r s = Assembles r.outcome r.head zero_alf zero_lmcs r.scaling s
 abbrev pub Heads : HeadReading → List ℕ → Type 0
 Heads r s = (outcome_read r.outcome (set_given (read_rbsp s)) ≡ read_rbsp s) × (r.head ≡ head_of (set_given (read_rbsp s)))
 
--- the kind that the first bits name
-abbrev pub Opens : List ℕ → Opening → Type 0
-Opens s (Opening.Alf id chroma) = (length s ≤ 65536) × Headed s 0 id chroma
-Opens s (Opening.Lmcs id chroma) = (length s ≤ 65536) × Headed s 1 id chroma
-Opens s (Opening.Scaling id chroma) = (length s ≤ 65536) × Headed s 2 id chroma
-Opens s (Opening.Refused why) = parse_aps_rbsp s ≡ refused (number why)
+-- the head that stands before the payload, but for the extension flag
+abbrev pub Heading : List ℕ → ApsHead → Type 0
+Heading s h = Headed s (number_of h.kind) h.aps_adaptation_parameter_set_id h.aps_chroma_present_flag
+
+-- the kind that the first bits name, and the reader at the payload
+abbrev pub Opens : List ℕ → Result (Reader × ApsHead) Refusal → Type 0
+Opens s (Ok x) = (length s ≤ 65536) × (x.0.bytes.now ≡ s) × (x.0.at ≡ 9) × Heading s x.1
+Opens s (Err why) = parse_aps_rbsp s ≡ refused (number why)
+
+-- the kind of a number; 3: there is none
+abbrev pub Names : ℕ → Result ApsKind Refusal → Type 0
+Names n (Ok kind) = n ≡ number_of kind
+Names n (Err why) = (2 < n) × (why ≡ Unsupported)
 
 -- the RBSP of the unit that o is the answer to stands at the start of the work buffer, or there is none
 abbrev pub Unwrapped : Size → Outcome VvcAps → List ℕ → Type 0

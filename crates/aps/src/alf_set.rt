@@ -1,52 +1,41 @@
 // A set of loop filters.
-ghost use Rattle.std.specs.Prelude.{◌≡◌, ◌≤◌, length};
-ghost use Rattle.bitstream.specs.Outcome.{map_outcome};
-ghost use Rattle.aps.specs.Inner.{Assembles, Headed, Heads, ReadsAlf, set_of, with_extension};
+ghost use Rattle.std.specs.Prelude.{◌≡◌};
+ghost use Rattle.aps.specs.Inner.{Assembles, Heading, Heads, ReadsAlf, assembled};
 ghost use Rattle.aps.specs.Rbsp.{read_rbsp, parse_aps_rbsp};
 ghost use Rattle.aps.specs.ApsSyntax.{zero_alf, zero_lmcs, zero_scaling};
 ghost use Rattle.aps.specs.Reading.{outcome_read, set_given, head_of};
-ghost use Rattle.aps.specs.Reads.{given};
+ghost use Rattle.aps.specs.Reads.{filled};
 
 use crate::alf::{VvcAlfData, parse_alf_data, zero_alf};
-use crate::aps::{Alf, ApsHead, ApsKind, ApsOutcome, HeadReading, Opening, open_rbsp, refuse_head};
+use crate::aps::{Alf, ApsHead, ApsKind, ApsOutcome, HeadReading, open_rbsp, refuse_head};
 use crate::ending::close_rbsp;
 use crate::lmcs_set::lmcs_head;
 use crate::reader::Reader;
 use crate::scaling_set::scaling_head;
 use bitstream::Refusal;
 
-// An ALF set after what stands before its payload: its id is judged after its payload. The extension flag.
-fn read_alf_set(
-    reader: &mut Reader,
-    id: u8,
-    chroma: bool,
-    d: &mut VvcAlfData,
-) -> Result<bool, Refusal>
-    requires { (reader.old.at ≡ 9) × Headed reader.old.bytes.now 0 id chroma × (d.old ≡ zero_alf) }
-    ensures { map_outcome (with_extension (set_of ApsKind.Alf id chroma d.new zero_lmcs zero_scaling)) (given result reader.new.at) ≡ read_rbsp reader.old.bytes.now }
+// An ALF set after what stands before its payload: its id is judged after its payload.
+fn read_alf_set(reader: &mut Reader, head: &mut ApsHead, d: &mut VvcAlfData) -> Result<(), Refusal>
+    requires { (reader.old.at ≡ 9) × (head.old.kind ≡ ApsKind.Alf) × Heading reader.old.bytes.now head.old × (d.old ≡ zero_alf) }
+    ensures { filled result (assembled head.new d.new zero_lmcs zero_scaling) reader.new.at ≡ read_rbsp reader.old.bytes.now }
 {
-    parse_alf_data(reader, chroma, d)?;
-    if Alf::MAX_ID < id {
+    parse_alf_data(reader, head.aps_chroma_present_flag, d)?;
+    if Alf::MAX_ID < head.aps_adaptation_parameter_set_id {
         return Err(Refusal::InvalidData);
     }
-    close_rbsp(reader)
+    head.aps_extension_flag = close_rbsp(reader)?;
+    Ok(())
 }
 
 // The answer but for the filters; a refusal's set is the empty set.
-fn alf_answer(bytes: &[u8], id: u8, chroma: bool, d: &mut VvcAlfData) -> HeadReading
-    requires { (length bytes.now ≤ 65536) × Headed bytes.now 0 id chroma × (d.old ≡ zero_alf) }
-    ensures { Assembles result.outcome result.head d.new zero_lmcs zero_scaling bytes.now }
+fn alf_answer(mut reader: Reader, mut head: ApsHead, d: &mut VvcAlfData) -> HeadReading
+    requires { (reader.at ≡ 9) × (head.kind ≡ ApsKind.Alf) × Heading reader.bytes.now head × (d.old ≡ zero_alf) }
+    ensures { Assembles result.outcome result.head d.new zero_lmcs zero_scaling reader.entry.bytes.now }
 {
-    let mut reader = Reader::new(bytes, 9);
-    match read_alf_set(&mut reader, id, chroma, d) {
-        Ok(extension) => HeadReading {
+    match read_alf_set(&mut reader, &mut head, d) {
+        Ok(()) => HeadReading {
             outcome: ApsOutcome::Read(reader.at()),
-            head: ApsHead {
-                kind: ApsKind::Alf,
-                aps_adaptation_parameter_set_id: id,
-                aps_chroma_present_flag: chroma,
-                aps_extension_flag: extension,
-            },
+            head,
         },
         Err(why) => {
             *d = zero_alf();
@@ -56,14 +45,14 @@ fn alf_answer(bytes: &[u8], id: u8, chroma: bool, d: &mut VvcAlfData) -> HeadRea
 }
 
 // The answer without the arrays.
-pub(crate) fn alf_head(bytes: &[u8], id: u8, chroma: bool) -> HeadReading
-    requires { (length bytes.now ≤ 65536) × Headed bytes.now 0 id chroma }
-    ensures answer { Heads result bytes.now }
-    ensures others { ((set_given (read_rbsp bytes.now)).lmcs ≡ zero_lmcs)
-        × ((set_given (read_rbsp bytes.now)).scaling ≡ zero_scaling) }
+pub(crate) fn alf_head(reader: Reader, head: ApsHead) -> HeadReading
+    requires { (reader.at ≡ 9) × (head.kind ≡ ApsKind.Alf) × Heading reader.bytes.now head }
+    ensures answer { Heads result reader.entry.bytes.now }
+    ensures others { ((set_given (read_rbsp reader.entry.bytes.now)).lmcs ≡ zero_lmcs)
+        × ((set_given (read_rbsp reader.entry.bytes.now)).scaling ≡ zero_scaling) }
 {
     let mut filters = zero_alf();
-    alf_answer(bytes, id, chroma, &mut filters)
+    alf_answer(reader, head, &mut filters)
 }
 
 // What reading gives of an ALF set; of a set of another kind the head.
@@ -74,12 +63,12 @@ pub struct AlfReading {
     pub alf: VvcAlfData,
 }
 
-pub(crate) fn alf_alone(bytes: &[u8], id: u8, chroma: bool) -> AlfReading
-    requires { (length bytes.now ≤ 65536) × Headed bytes.now 0 id chroma }
-    ensures { ReadsAlf result bytes.now }
+pub(crate) fn alf_alone(reader: Reader, head: ApsHead) -> AlfReading
+    requires { (reader.at ≡ 9) × (head.kind ≡ ApsKind.Alf) × Heading reader.bytes.now head }
+    ensures { ReadsAlf result reader.entry.bytes.now }
 {
     let mut alf = zero_alf();
-    let answer = alf_answer(bytes, id, chroma, &mut alf);
+    let answer = alf_answer(reader, head, &mut alf);
     AlfReading {
         outcome: answer.outcome,
         head: answer.head,
@@ -106,10 +95,13 @@ pub fn parse_alf_rbsp(bytes: &[u8]) -> AlfReading
     ensures head { result.head ≡ head_of (set_given (parse_aps_rbsp bytes.now)) }
     ensures alf { result.alf ≡ (set_given (parse_aps_rbsp bytes.now)).alf }
 {
-    match open_rbsp(bytes) {
-        Opening::Alf { id, chroma } => alf_alone(bytes, id, chroma),
-        Opening::Lmcs { id, chroma } => no_alf_in(lmcs_head(bytes, id, chroma)),
-        Opening::Scaling { id, chroma } => no_alf_in(scaling_head(bytes, id, chroma)),
-        Opening::Refused(why) => no_alf_in(refuse_head(why)),
+    let (reader, head) = match open_rbsp(bytes) {
+        Ok(opened) => opened,
+        Err(why) => return no_alf_in(refuse_head(why)),
+    };
+    match head.kind {
+        ApsKind::Alf => alf_alone(reader, head),
+        ApsKind::Lmcs => no_alf_in(lmcs_head(reader, head)),
+        ApsKind::Scaling => no_alf_in(scaling_head(reader, head)),
     }
 }

@@ -1,54 +1,45 @@
 // A set of the luma curve.
-ghost use Rattle.std.specs.Prelude.{◌≡◌, ◌≤◌, length};
-ghost use Rattle.bitstream.specs.Outcome.{map_outcome};
-ghost use Rattle.aps.specs.Inner.{Assembles, Headed, Heads, ReadsLmcs, set_of, with_extension};
+ghost use Rattle.std.specs.Prelude.{◌≡◌};
+ghost use Rattle.aps.specs.Inner.{Assembles, Heading, Heads, ReadsLmcs, assembled};
 ghost use Rattle.aps.specs.Rbsp.{read_rbsp, parse_aps_rbsp};
 ghost use Rattle.aps.specs.ApsSyntax.{zero_alf, zero_lmcs, zero_scaling};
 ghost use Rattle.aps.specs.Reading.{outcome_read, set_given, head_of};
-ghost use Rattle.aps.specs.Reads.{given};
+ghost use Rattle.aps.specs.Reads.{filled};
 
 use crate::alf_set::alf_head;
-use crate::aps::{
-    ApsHead, ApsKind, ApsOutcome, HeadReading, Lmcs, Opening, open_rbsp, refuse_head,
-};
+use crate::aps::{ApsHead, ApsKind, ApsOutcome, HeadReading, Lmcs, open_rbsp, refuse_head};
 use crate::ending::close_rbsp;
 use crate::lmcs::{VvcLmcsData, parse_lmcs_data, zero_lmcs};
 use crate::reader::Reader;
 use crate::scaling_set::scaling_head;
 use bitstream::Refusal;
 
-// An LMCS set after what stands before its payload: its id is judged before its payload. The extension flag.
+// An LMCS set after what stands before its payload: its id is judged before its payload.
 fn read_lmcs_set(
     reader: &mut Reader,
-    id: u8,
-    chroma: bool,
+    head: &mut ApsHead,
     d: &mut VvcLmcsData,
-) -> Result<bool, Refusal>
-    requires { (reader.old.at ≡ 9) × Headed reader.old.bytes.now 1 id chroma × (d.old ≡ zero_lmcs) }
-    ensures { map_outcome (with_extension (set_of ApsKind.Lmcs id chroma zero_alf d.new zero_scaling)) (given result reader.new.at) ≡ read_rbsp reader.old.bytes.now }
+) -> Result<(), Refusal>
+    requires { (reader.old.at ≡ 9) × (head.old.kind ≡ ApsKind.Lmcs) × Heading reader.old.bytes.now head.old × (d.old ≡ zero_lmcs) }
+    ensures { filled result (assembled head.new zero_alf d.new zero_scaling) reader.new.at ≡ read_rbsp reader.old.bytes.now }
 {
-    if Lmcs::MAX_ID < id {
+    if Lmcs::MAX_ID < head.aps_adaptation_parameter_set_id {
         return Err(Refusal::InvalidData);
     }
-    parse_lmcs_data(reader, chroma, d)?;
-    close_rbsp(reader)
+    parse_lmcs_data(reader, head.aps_chroma_present_flag, d)?;
+    head.aps_extension_flag = close_rbsp(reader)?;
+    Ok(())
 }
 
 // The answer but for the curve; a refusal's set is the empty set.
-fn lmcs_answer(bytes: &[u8], id: u8, chroma: bool, d: &mut VvcLmcsData) -> HeadReading
-    requires { (length bytes.now ≤ 65536) × Headed bytes.now 1 id chroma × (d.old ≡ zero_lmcs) }
-    ensures { Assembles result.outcome result.head zero_alf d.new zero_scaling bytes.now }
+fn lmcs_answer(mut reader: Reader, mut head: ApsHead, d: &mut VvcLmcsData) -> HeadReading
+    requires { (reader.at ≡ 9) × (head.kind ≡ ApsKind.Lmcs) × Heading reader.bytes.now head × (d.old ≡ zero_lmcs) }
+    ensures { Assembles result.outcome result.head zero_alf d.new zero_scaling reader.entry.bytes.now }
 {
-    let mut reader = Reader::new(bytes, 9);
-    match read_lmcs_set(&mut reader, id, chroma, d) {
-        Ok(extension) => HeadReading {
+    match read_lmcs_set(&mut reader, &mut head, d) {
+        Ok(()) => HeadReading {
             outcome: ApsOutcome::Read(reader.at()),
-            head: ApsHead {
-                kind: ApsKind::Lmcs,
-                aps_adaptation_parameter_set_id: id,
-                aps_chroma_present_flag: chroma,
-                aps_extension_flag: extension,
-            },
+            head,
         },
         Err(why) => {
             *d = zero_lmcs();
@@ -58,14 +49,14 @@ fn lmcs_answer(bytes: &[u8], id: u8, chroma: bool, d: &mut VvcLmcsData) -> HeadR
 }
 
 // The answer without the arrays.
-pub(crate) fn lmcs_head(bytes: &[u8], id: u8, chroma: bool) -> HeadReading
-    requires { (length bytes.now ≤ 65536) × Headed bytes.now 1 id chroma }
-    ensures answer { Heads result bytes.now }
-    ensures others { ((set_given (read_rbsp bytes.now)).alf ≡ zero_alf)
-        × ((set_given (read_rbsp bytes.now)).scaling ≡ zero_scaling) }
+pub(crate) fn lmcs_head(reader: Reader, head: ApsHead) -> HeadReading
+    requires { (reader.at ≡ 9) × (head.kind ≡ ApsKind.Lmcs) × Heading reader.bytes.now head }
+    ensures answer { Heads result reader.entry.bytes.now }
+    ensures others { ((set_given (read_rbsp reader.entry.bytes.now)).alf ≡ zero_alf)
+        × ((set_given (read_rbsp reader.entry.bytes.now)).scaling ≡ zero_scaling) }
 {
     let mut curve = zero_lmcs();
-    lmcs_answer(bytes, id, chroma, &mut curve)
+    lmcs_answer(reader, head, &mut curve)
 }
 
 // What reading gives of an LMCS set; of a set of another kind the head.
@@ -76,12 +67,12 @@ pub struct LmcsReading {
     pub lmcs: VvcLmcsData,
 }
 
-pub(crate) fn lmcs_alone(bytes: &[u8], id: u8, chroma: bool) -> LmcsReading
-    requires { (length bytes.now ≤ 65536) × Headed bytes.now 1 id chroma }
-    ensures { ReadsLmcs result bytes.now }
+pub(crate) fn lmcs_alone(reader: Reader, head: ApsHead) -> LmcsReading
+    requires { (reader.at ≡ 9) × (head.kind ≡ ApsKind.Lmcs) × Heading reader.bytes.now head }
+    ensures { ReadsLmcs result reader.entry.bytes.now }
 {
     let mut lmcs = zero_lmcs();
-    let answer = lmcs_answer(bytes, id, chroma, &mut lmcs);
+    let answer = lmcs_answer(reader, head, &mut lmcs);
     LmcsReading {
         outcome: answer.outcome,
         head: answer.head,
@@ -108,10 +99,13 @@ pub fn parse_lmcs_rbsp(bytes: &[u8]) -> LmcsReading
     ensures head { result.head ≡ head_of (set_given (parse_aps_rbsp bytes.now)) }
     ensures lmcs { result.lmcs ≡ (set_given (parse_aps_rbsp bytes.now)).lmcs }
 {
-    match open_rbsp(bytes) {
-        Opening::Alf { id, chroma } => no_lmcs_in(alf_head(bytes, id, chroma)),
-        Opening::Lmcs { id, chroma } => lmcs_alone(bytes, id, chroma),
-        Opening::Scaling { id, chroma } => no_lmcs_in(scaling_head(bytes, id, chroma)),
-        Opening::Refused(why) => no_lmcs_in(refuse_head(why)),
+    let (reader, head) = match open_rbsp(bytes) {
+        Ok(opened) => opened,
+        Err(why) => return no_lmcs_in(refuse_head(why)),
+    };
+    match head.kind {
+        ApsKind::Alf => no_lmcs_in(alf_head(reader, head)),
+        ApsKind::Lmcs => lmcs_alone(reader, head),
+        ApsKind::Scaling => no_lmcs_in(scaling_head(reader, head)),
     }
 }

@@ -1,16 +1,13 @@
 // A set of scaling lists.
-ghost use Rattle.std.specs.Prelude.{◌≡◌, ◌≤◌, length};
-ghost use Rattle.bitstream.specs.Outcome.{map_outcome};
-ghost use Rattle.aps.specs.Inner.{Assembles, Headed, Heads, ReadsScaling, set_of, with_extension};
+ghost use Rattle.std.specs.Prelude.{◌≡◌};
+ghost use Rattle.aps.specs.Inner.{Assembles, Heading, Heads, ReadsScaling, assembled};
 ghost use Rattle.aps.specs.Rbsp.{read_rbsp, parse_aps_rbsp};
 ghost use Rattle.aps.specs.ApsSyntax.{zero_alf, zero_lmcs, zero_scaling};
 ghost use Rattle.aps.specs.Reading.{outcome_read, set_given, head_of};
-ghost use Rattle.aps.specs.Reads.{given};
+ghost use Rattle.aps.specs.Reads.{filled};
 
 use crate::alf_set::alf_head;
-use crate::aps::{
-    ApsHead, ApsKind, ApsOutcome, HeadReading, Opening, Scaling, open_rbsp, refuse_head,
-};
+use crate::aps::{ApsHead, ApsKind, ApsOutcome, HeadReading, Scaling, open_rbsp, refuse_head};
 use crate::ending::close_rbsp;
 use crate::lmcs_set::lmcs_head;
 use crate::reader::Reader;
@@ -18,38 +15,32 @@ use crate::scaling_list::{VvcScalingListData, zero_scaling};
 use crate::scaling_list_data::parse_scaling_list_data;
 use bitstream::Refusal;
 
-// A scaling set after what stands before its payload: its id is judged after its payload. The extension flag.
+// A scaling set after what stands before its payload: its id is judged after its payload.
 fn read_scaling_set(
     reader: &mut Reader,
-    id: u8,
-    chroma: bool,
+    head: &mut ApsHead,
     d: &mut VvcScalingListData,
-) -> Result<bool, Refusal>
-    requires { (reader.old.at ≡ 9) × Headed reader.old.bytes.now 2 id chroma × (d.old ≡ zero_scaling) }
-    ensures { map_outcome (with_extension (set_of ApsKind.Scaling id chroma zero_alf zero_lmcs d.new)) (given result reader.new.at) ≡ read_rbsp reader.old.bytes.now }
+) -> Result<(), Refusal>
+    requires { (reader.old.at ≡ 9) × (head.old.kind ≡ ApsKind.Scaling) × Heading reader.old.bytes.now head.old × (d.old ≡ zero_scaling) }
+    ensures { filled result (assembled head.new zero_alf zero_lmcs d.new) reader.new.at ≡ read_rbsp reader.old.bytes.now }
 {
-    parse_scaling_list_data(reader, chroma, d)?;
-    if Scaling::MAX_ID < id {
+    parse_scaling_list_data(reader, head.aps_chroma_present_flag, d)?;
+    if Scaling::MAX_ID < head.aps_adaptation_parameter_set_id {
         return Err(Refusal::InvalidData);
     }
-    close_rbsp(reader)
+    head.aps_extension_flag = close_rbsp(reader)?;
+    Ok(())
 }
 
 // The answer but for the lists; a refusal's set is the empty set.
-fn scaling_answer(bytes: &[u8], id: u8, chroma: bool, d: &mut VvcScalingListData) -> HeadReading
-    requires { (length bytes.now ≤ 65536) × Headed bytes.now 2 id chroma × (d.old ≡ zero_scaling) }
-    ensures { Assembles result.outcome result.head zero_alf zero_lmcs d.new bytes.now }
+fn scaling_answer(mut reader: Reader, mut head: ApsHead, d: &mut VvcScalingListData) -> HeadReading
+    requires { (reader.at ≡ 9) × (head.kind ≡ ApsKind.Scaling) × Heading reader.bytes.now head × (d.old ≡ zero_scaling) }
+    ensures { Assembles result.outcome result.head zero_alf zero_lmcs d.new reader.entry.bytes.now }
 {
-    let mut reader = Reader::new(bytes, 9);
-    match read_scaling_set(&mut reader, id, chroma, d) {
-        Ok(extension) => HeadReading {
+    match read_scaling_set(&mut reader, &mut head, d) {
+        Ok(()) => HeadReading {
             outcome: ApsOutcome::Read(reader.at()),
-            head: ApsHead {
-                kind: ApsKind::Scaling,
-                aps_adaptation_parameter_set_id: id,
-                aps_chroma_present_flag: chroma,
-                aps_extension_flag: extension,
-            },
+            head,
         },
         Err(why) => {
             *d = zero_scaling();
@@ -59,14 +50,14 @@ fn scaling_answer(bytes: &[u8], id: u8, chroma: bool, d: &mut VvcScalingListData
 }
 
 // The answer without the arrays.
-pub(crate) fn scaling_head(bytes: &[u8], id: u8, chroma: bool) -> HeadReading
-    requires { (length bytes.now ≤ 65536) × Headed bytes.now 2 id chroma }
-    ensures answer { Heads result bytes.now }
-    ensures others { ((set_given (read_rbsp bytes.now)).alf ≡ zero_alf)
-        × ((set_given (read_rbsp bytes.now)).lmcs ≡ zero_lmcs) }
+pub(crate) fn scaling_head(reader: Reader, head: ApsHead) -> HeadReading
+    requires { (reader.at ≡ 9) × (head.kind ≡ ApsKind.Scaling) × Heading reader.bytes.now head }
+    ensures answer { Heads result reader.entry.bytes.now }
+    ensures others { ((set_given (read_rbsp reader.entry.bytes.now)).alf ≡ zero_alf)
+        × ((set_given (read_rbsp reader.entry.bytes.now)).lmcs ≡ zero_lmcs) }
 {
     let mut lists = zero_scaling();
-    scaling_answer(bytes, id, chroma, &mut lists)
+    scaling_answer(reader, head, &mut lists)
 }
 
 // What reading gives of a scaling set; of a set of another kind the head.
@@ -77,12 +68,12 @@ pub struct ScalingReading {
     pub scaling: VvcScalingListData,
 }
 
-pub(crate) fn scaling_alone(bytes: &[u8], id: u8, chroma: bool) -> ScalingReading
-    requires { (length bytes.now ≤ 65536) × Headed bytes.now 2 id chroma }
-    ensures { ReadsScaling result bytes.now }
+pub(crate) fn scaling_alone(reader: Reader, head: ApsHead) -> ScalingReading
+    requires { (reader.at ≡ 9) × (head.kind ≡ ApsKind.Scaling) × Heading reader.bytes.now head }
+    ensures { ReadsScaling result reader.entry.bytes.now }
 {
     let mut scaling = zero_scaling();
-    let answer = scaling_answer(bytes, id, chroma, &mut scaling);
+    let answer = scaling_answer(reader, head, &mut scaling);
     ScalingReading {
         outcome: answer.outcome,
         head: answer.head,
@@ -109,10 +100,13 @@ pub fn parse_scaling_rbsp(bytes: &[u8]) -> ScalingReading
     ensures head { result.head ≡ head_of (set_given (parse_aps_rbsp bytes.now)) }
     ensures scaling { result.scaling ≡ (set_given (parse_aps_rbsp bytes.now)).scaling }
 {
-    match open_rbsp(bytes) {
-        Opening::Alf { id, chroma } => no_scaling_in(alf_head(bytes, id, chroma)),
-        Opening::Lmcs { id, chroma } => no_scaling_in(lmcs_head(bytes, id, chroma)),
-        Opening::Scaling { id, chroma } => scaling_alone(bytes, id, chroma),
-        Opening::Refused(why) => no_scaling_in(refuse_head(why)),
+    let (reader, head) = match open_rbsp(bytes) {
+        Ok(opened) => opened,
+        Err(why) => return no_scaling_in(refuse_head(why)),
+    };
+    match head.kind {
+        ApsKind::Alf => no_scaling_in(alf_head(reader, head)),
+        ApsKind::Lmcs => no_scaling_in(lmcs_head(reader, head)),
+        ApsKind::Scaling => scaling_alone(reader, head),
     }
 }

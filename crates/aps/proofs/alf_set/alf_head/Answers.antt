@@ -9,7 +9,7 @@ returns c =
     let k = c.alf_answer in
     let a = k.result in
     let d = k.new.d in
-    let s = c.args.bytes.now in
+    let s = c.args.reader.bytes.now in
     record {
       answer = heads a.outcome a.head d zero_lmcs zero_scaling s k.ensures;
       others = (sym (lmcs-is a.outcome a.head d zero_lmcs zero_scaling s k.ensures), sym (scaling-is a.outcome a.head d zero_lmcs zero_scaling s k.ensures));

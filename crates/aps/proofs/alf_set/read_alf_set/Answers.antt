@@ -1,32 +1,38 @@
 -- `read_alf_set`: the payload, its id, and what closes the RBSP.
-use mathlib.Core.Path.{refl, sym, ap, ◌∙◌}
-use Rattle.bitstream.specs.Outcome.{map_outcome}
+use mathlib.Core.Path.{sym}
 use Rattle.aps.specs.Inner.{set_of, with_extension}
 use Rattle.aps.specs.ApsSyntax.{zero_lmcs, zero_scaling}
 use Rattle.aps.specs.declared.aps.ApsKind.{ApsKind}
-use Rattle.aps.proofs.ReaderLaws.{given-exit}
-use Rattle.aps.proofs.RbspSteps.{alf-refused, alf-id, alf-set, ended-finished}
+use Rattle.aps.proofs.ReaderLaws.{filled-exit}
+use Rattle.aps.proofs.RbspSteps.{alf-refused, alf-id, alf-set, set-closed, set-open}
 use Rattle.aps.proofs.alf_set.read_alf_set.Goals as goal
 
 pub returns-in_err-parse_alf_data : goal.returns-in_err-parse_alf_data
 returns-in_err-parse_alf_data c =
-    let a = c.args in
+    let H = rw c.requires.1 at c.requires.2 in
     let e = sym (rw c.requires.0 at c.in_err-parse_alf_data.ensures.field) in
-    ap (map_outcome (with_extension (set_of ApsKind.Alf a.id a.chroma c.parse_alf_data.new.d zero_lmcs zero_scaling))) (given-exit _ _ _ c.from_residual.ensures.1 refl)
-    ∙ sym (alf-refused a.reader.now.bytes.now a.id a.chroma c.requires.1 _ e)
+    filled-exit _ _ _ _ c.from_residual.ensures.1 (sym (alf-refused _ _ _ H _ e))
 
-pub returns-then-id-gt-MAX_ID : goal.returns-then-id-gt-MAX_ID
-returns-then-id-gt-MAX_ID c =
-    let a = c.args in
+pub returns-then-head-gt-MAX_ID : goal.returns-then-head-gt-MAX_ID
+returns-then-head-gt-MAX_ID c =
+    let H = rw c.requires.1 at c.requires.2 in
     let e = sym (rw c.requires.0 at c.in_ok-parse_alf_data.ensures.field) in
-    sym (alf-id a.reader.now.bytes.now a.id a.chroma c.requires.1 _ _ e c.if-id-gt-MAX_ID.true)
+    sym (alf-id _ _ _ H _ _ e c.if-head-gt-MAX_ID.true)
+
+pub returns-in_err-head : goal.returns-in_err-head
+returns-in_err-head c =
+    let h = c.args.head.now in
+    let set = set_of ApsKind.Alf h.aps_adaptation_parameter_set_id h.aps_chroma_present_flag c.parse_alf_data.new.d zero_lmcs zero_scaling in
+    let H = rw c.requires.1 at c.requires.2 in
+    let e = sym (rw c.requires.0 at c.in_ok-parse_alf_data.ensures.field) in
+    filled-exit _ _ _ _ c.from_residual-in_err-head.ensures.1
+    (set-open _ set _ (alf-set _ _ _ H _ _ e c.if-head-gt-MAX_ID.false) (rw c.in_ok-parse_alf_data.ensures.bytes at c.in_err-head.ensures))
 
 pub returns : goal.returns
+unfolding with_extension
 returns c =
-    let a = c.args in
-    let s = a.reader.now.bytes.now in
-    let d = c.parse_alf_data.new.d in
+    let h = c.args.head.now in
+    let set = set_of ApsKind.Alf h.aps_adaptation_parameter_set_id h.aps_chroma_present_flag c.parse_alf_data.new.d zero_lmcs zero_scaling in
+    let H = rw c.requires.1 at c.requires.2 in
     let e = sym (rw c.requires.0 at c.in_ok-parse_alf_data.ensures.field) in
-    let o = rw c.in_ok-parse_alf_data.ensures.bytes at c.close_rbsp.ensures in
-    let set = set_of ApsKind.Alf a.id a.chroma d zero_lmcs zero_scaling in
-    ap (map_outcome (with_extension set)) o ∙ ended-finished s set _ ∙ sym (alf-set s a.id a.chroma c.requires.1 d _ e c.if-id-gt-MAX_ID.false)
+    rw c.requires.1 (set-closed _ set _ (alf-set _ _ _ H _ _ e c.if-head-gt-MAX_ID.false) (rw c.in_ok-parse_alf_data.ensures.bytes at c.in_ok-head.ensures))

@@ -1,17 +1,7 @@
 -- `lmcs_answer`: what was read, or the empty set.
 use mathlib.Core.Path.{refl, sym}
-use native.Mathlib.Omega.{arith}
-use Rattle.aps.proofs.Answers.{ended-parts, refused-parts}
-use Rattle.aps.proofs.FieldLaws.{lacks-none}
+use Rattle.aps.proofs.Answers.{refused-parts}
 use Rattle.aps.proofs.lmcs_set.lmcs_answer.Goals as goal
 
-pub new-reader-requires : goal.new-reader-requires
-new-reader-requires c = (c.requires.0, lacks-none c.args.bytes.now 0 9 (omega arith) c.requires.1.there)
-
-pub returns-in-Ok : goal.returns-in-Ok
-returns-in-Ok c = ended-parts (rw (c.at.ensures, ← c.new-reader.ensures.0) c.in-Ok.ensures) _ refl
-
 pub returns-in-Err : goal.returns-in-Err
-returns-in-Err c =
-    let r = c.refuse_head.ensures in
-    refused-parts _ (r.0, r.1, refl, c.zero_lmcs.ensures, refl) (rw (← c.new-reader.ensures.0) (sym c.in-Err.ensures))
+returns-in-Err c = let r = c.refuse_head.ensures in refused-parts _ (r.0, r.1, refl, c.zero_lmcs.ensures, refl) (sym c.in-Err.ensures)

@@ -9,7 +9,7 @@ returns c =
     let k = c.lmcs_answer in
     let a = k.result in
     let d = k.new.d in
-    let s = c.args.bytes.now in
+    let s = c.args.reader.bytes.now in
     record {
       answer = heads a.outcome a.head zero_alf d zero_scaling s k.ensures;
       others = (sym (alf-is a.outcome a.head zero_alf d zero_scaling s k.ensures), sym (scaling-is a.outcome a.head zero_alf d zero_scaling s k.ensures));
