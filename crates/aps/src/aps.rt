@@ -189,7 +189,7 @@ pub(crate) fn open_rbsp(bytes: &[u8]) -> Result<(Reader<'_>, ApsHead), Refusal>
         kind,
         aps_adaptation_parameter_set_id: id as u8,
         aps_chroma_present_flag: chroma,
-        aps_extension_flag: false,
+        ..empty_head()
     };
     Ok((reader, head))
 }
