@@ -6,7 +6,7 @@ use native.Mathlib.Omega.{arith}
 use lib.ListN.{length}
 use Rattle.bitstream.specs.Outcome.{value}
 use Rattle.bitstream.specs.Windows.{IsWindow, code_in, ShortCodes, code_by}
-use Rattle.bitstream.proofs.WindowLaws.{Found, code-found, code-most, code-small, table-code}
+use Rattle.bitstream.proofs.WindowLaws.{Found, code-found, code-most, table-code}
 use Rattle.aps.specs.Codec.{ue}
 use Rattle.aps.proofs.WindowSteps.{found-ue}
 
@@ -19,12 +19,6 @@ module _ {codes : List ℕ} (t : ShortCodes codes) {s : List ℕ} {p left w : �
 
   pub table-found : 0 < c.1 → Found w c.0 c.1
   table-found = code-found w c is_code
-
-  pub table-value : 0 < c.1 → c.0 < 511
-  table-value a =
-      let f = table-found a in
-      let b = code-small w h.fits f.few in
-      omega (arith, f.is, b.0, b.1)
 
   -- one that ends inside the input
   pub table-ue : 0 < c.1 → 17 ≤ left → p + c.1 ≤ length s * 8 → ue.read s p ≡ value c.0 (p + c.1)

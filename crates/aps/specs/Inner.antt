@@ -3,7 +3,6 @@ use Rattle.std.specs.Prelude.{◌≡◌, Bool, true, false, cond, not, List, [],
 use Rattle.bitstream.specs.Outcome.{Outcome, value, refused, number, ◌then◌}
 use Rattle.bitstream.specs.Bits.{field_at, put_bits}
 use Rattle.bitstream.specs.Fields.{lacks, read_trailing}
-use Rattle.bitstream.specs.Windows.{IsWindow}
 use Rattle.bitstream.specs.declared.Refusal.{Refusal}
 use Rattle.bitstream.specs.declared.Refusal.TheVariants.{InvalidData, Unsupported}
 use Rattle.bitstream.specs.declared.nal.Size.{Size}
@@ -13,9 +12,6 @@ use Rattle.aps.specs.ApsSyntax.{number_of, zero_alf, zero_lmcs, zero_scaling}
 use Rattle.aps.specs.Rbsp.{closed, read_rbsp, parse_aps_rbsp}
 use Rattle.aps.specs.Reading.{outcome_read, set_given, head_of}
 use Rattle.aps.specs.declared.fields.Stop.{Stop}
-use Rattle.aps.specs.declared.fields.SignedField.{SignedField}
-use Rattle.aps.specs.declared.fields.SignedField.TheVariants as Signed
-use Rattle.aps.specs.declared.windows.Window.{Window}
 use Rattle.aps.specs.declared.alf.VvcAlfLuma.{VvcAlfLuma}
 use Rattle.aps.specs.declared.alf.VvcAlfChroma.{VvcAlfChroma}
 use Rattle.aps.specs.declared.alf.VvcAlfCcFilters.{VvcAlfCcFilters}
@@ -56,16 +52,6 @@ abbrev pub Spans : Stop → Stop → ℕ → Type 0
 Spans from to n = (m : ℕ) → StopsBy from m → StopsBy to (m + n)
 
 -- ---- reading
-
-abbrev pub outcome_signed : SignedField → Outcome (ℕ × Bool)
-outcome_signed (Signed.Value m s q) = value (m, s) q
-outcome_signed (Signed.Refused e) = refused (number e)
-
--- ---- a window held across fields
-
--- the window is one of the bytes s at its place
-abbrev pub Known : List ℕ → Window → Type 0
-Known s w = IsWindow s w.at w.left w.bits
 
 -- a value and the bit after it; 1 where that passes the input's end
 abbrev pub ends_at : {A : Type 0} → List ℕ → ℕ → A → Outcome A

@@ -95,13 +95,12 @@ pub fn parse_alf_rbsp(bytes: &[u8]) -> AlfReading
     ensures head { result.head ≡ head_of (set_given (parse_aps_rbsp bytes.now)) }
     ensures alf { result.alf ≡ (set_given (parse_aps_rbsp bytes.now)).alf }
 {
-    let (reader, head) = match open_rbsp(bytes) {
-        Ok(opened) => opened,
-        Err(why) => return no_alf_in(refuse_head(why)),
-    };
-    match head.kind {
-        ApsKind::Alf => alf_alone(reader, head),
-        ApsKind::Lmcs => no_alf_in(lmcs_head(reader, head)),
-        ApsKind::Scaling => no_alf_in(scaling_head(reader, head)),
+    match open_rbsp(bytes) {
+        Ok((reader, head)) => match head.kind {
+            ApsKind::Alf => alf_alone(reader, head),
+            ApsKind::Lmcs => no_alf_in(lmcs_head(reader, head)),
+            ApsKind::Scaling => no_alf_in(scaling_head(reader, head)),
+        },
+        Err(why) => no_alf_in(refuse_head(why)),
     }
 }

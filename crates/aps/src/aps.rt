@@ -189,7 +189,7 @@ pub(crate) fn open_rbsp(bytes: &[u8]) -> Result<(Reader<'_>, ApsHead), Refusal>
         kind,
         aps_adaptation_parameter_set_id: id as u8,
         aps_chroma_present_flag: chroma,
-        aps_extension_flag: false,
+        ..empty_head()
     };
     Ok((reader, head))
 }
@@ -263,14 +263,13 @@ pub fn parse_aps_rbsp(bytes: &[u8]) -> ApsReading
     ensures answer { outcome_aps result ≡ parse_aps_rbsp bytes.now }
     ensures set { result.set ≡ set_given (parse_aps_rbsp bytes.now) }
 {
-    let (reader, head) = match open_rbsp(bytes) {
-        Ok(opened) => opened,
-        Err(why) => return refuse(why),
-    };
-    match head.kind {
-        ApsKind::Alf => with_alf(alf_alone(reader, head)),
-        ApsKind::Lmcs => with_lmcs(lmcs_alone(reader, head)),
-        ApsKind::Scaling => with_scaling(scaling_alone(reader, head)),
+    match open_rbsp(bytes) {
+        Ok((reader, head)) => match head.kind {
+            ApsKind::Alf => with_alf(alf_alone(reader, head)),
+            ApsKind::Lmcs => with_lmcs(lmcs_alone(reader, head)),
+            ApsKind::Scaling => with_scaling(scaling_alone(reader, head)),
+        },
+        Err(why) => refuse(why),
     }
 }
 
@@ -279,13 +278,12 @@ pub fn parse_aps_head(bytes: &[u8]) -> HeadReading
     ensures answer { outcome_read result.outcome (set_given (parse_aps_rbsp bytes.now)) ≡ parse_aps_rbsp bytes.now }
     ensures head { result.head ≡ head_of (set_given (parse_aps_rbsp bytes.now)) }
 {
-    let (reader, head) = match open_rbsp(bytes) {
-        Ok(opened) => opened,
-        Err(why) => return refuse_head(why),
-    };
-    match head.kind {
-        ApsKind::Alf => alf_head(reader, head),
-        ApsKind::Lmcs => lmcs_head(reader, head),
-        ApsKind::Scaling => scaling_head(reader, head),
+    match open_rbsp(bytes) {
+        Ok((reader, head)) => match head.kind {
+            ApsKind::Alf => alf_head(reader, head),
+            ApsKind::Lmcs => lmcs_head(reader, head),
+            ApsKind::Scaling => scaling_head(reader, head),
+        },
+        Err(why) => refuse_head(why),
     }
 }

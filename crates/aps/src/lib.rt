@@ -22,6 +22,5 @@ mod scaling_list_data;
 mod scaling_list_write;
 pub mod scaling_set;
 pub mod unit;
-mod windows;
 pub mod write;
 mod zeros;

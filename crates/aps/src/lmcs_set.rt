@@ -99,13 +99,12 @@ pub fn parse_lmcs_rbsp(bytes: &[u8]) -> LmcsReading
     ensures head { result.head ≡ head_of (set_given (parse_aps_rbsp bytes.now)) }
     ensures lmcs { result.lmcs ≡ (set_given (parse_aps_rbsp bytes.now)).lmcs }
 {
-    let (reader, head) = match open_rbsp(bytes) {
-        Ok(opened) => opened,
-        Err(why) => return no_lmcs_in(refuse_head(why)),
-    };
-    match head.kind {
-        ApsKind::Alf => no_lmcs_in(alf_head(reader, head)),
-        ApsKind::Lmcs => lmcs_alone(reader, head),
-        ApsKind::Scaling => no_lmcs_in(scaling_head(reader, head)),
+    match open_rbsp(bytes) {
+        Ok((reader, head)) => match head.kind {
+            ApsKind::Alf => no_lmcs_in(alf_head(reader, head)),
+            ApsKind::Lmcs => lmcs_alone(reader, head),
+            ApsKind::Scaling => no_lmcs_in(scaling_head(reader, head)),
+        },
+        Err(why) => no_lmcs_in(refuse_head(why)),
     }
 }

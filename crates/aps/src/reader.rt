@@ -1,8 +1,8 @@
 // The fields of an input of at most 65,536 bytes, one after another.
-ghost use Rattle.std.specs.Prelude.{◌≡◌, false, cond, ◌+◌, ◌*◌, ◌≤◌, ◌<◌, eqb, ltb, length};
+ghost use Rattle.std.specs.Prelude.{◌≡◌, false, cond, ◌+◌, ◌*◌, ◌≤◌, ◌<◌, eqb, ltb, nat_abs, length};
+ghost use Rattle.bitstream.specs.Fields.{se_value};
 ghost use Rattle.bitstream.specs.Windows.{IsWindow, ShortCodes};
 
-use crate::fields::se_of;
 use bitstream::Refusal;
 use bitstream::bit_reader::{BitReader, FieldU, Trailing};
 use bitstream::short_codes::code_by_table;
@@ -239,4 +239,15 @@ fn sign_bits(abs: u32) -> u64
     ensures { (result ≡ cond (eqb abs 0) 0 1) × (result ≤ 1) }
 {
     if abs == 0 { 0 } else { 1 }
+}
+
+// The se that a short ue stands for.
+fn se_of(k: u32) -> i32
+    requires { k < 1000 }
+    ensures { (result ≡ se_value k) × (nat_abs result ≤ 500) }
+{
+    if k % 2 == 1 {
+        return (k / 2 + 1) as i32;
+    }
+    -((k / 2) as i32)
 }

@@ -100,13 +100,12 @@ pub fn parse_scaling_rbsp(bytes: &[u8]) -> ScalingReading
     ensures head { result.head ≡ head_of (set_given (parse_aps_rbsp bytes.now)) }
     ensures scaling { result.scaling ≡ (set_given (parse_aps_rbsp bytes.now)).scaling }
 {
-    let (reader, head) = match open_rbsp(bytes) {
-        Ok(opened) => opened,
-        Err(why) => return no_scaling_in(refuse_head(why)),
-    };
-    match head.kind {
-        ApsKind::Alf => no_scaling_in(alf_head(reader, head)),
-        ApsKind::Lmcs => no_scaling_in(lmcs_head(reader, head)),
-        ApsKind::Scaling => scaling_alone(reader, head),
+    match open_rbsp(bytes) {
+        Ok((reader, head)) => match head.kind {
+            ApsKind::Alf => no_scaling_in(alf_head(reader, head)),
+            ApsKind::Lmcs => no_scaling_in(lmcs_head(reader, head)),
+            ApsKind::Scaling => scaling_alone(reader, head),
+        },
+        Err(why) => no_scaling_in(refuse_head(why)),
     }
 }

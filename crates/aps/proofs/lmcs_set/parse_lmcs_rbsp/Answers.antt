@@ -10,13 +10,13 @@ use Rattle.aps.proofs.lmcs_set.parse_lmcs_rbsp.Goals as goal
 pub returns-in-Err : goal.returns-in-Err
 unfolding empty_set
 returns-in-Err c =
-    let r = refused-part (λ (a : VvcAps). a.lmcs) c.refuse_head.result c.no_lmcs_in.ensures _ c.refuse_head.ensures refl c.in-Err.ensures in record { answer = r.0; head = r.1.0; lmcs = r.1.1 }
+    let r = refused-part (λ (a : VvcAps). a.lmcs) c.refuse_head.result c.no_lmcs_in-in-Err.ensures _ c.refuse_head.ensures refl c.in-Err.ensures in record { answer = r.0; head = r.1.0; lmcs = r.1.1 }
 
 pub returns-in-Alf : goal.returns-in-Alf
 returns-in-Alf c =
     let o = c.in-Ok.ensures in
     let k = c.alf_head in
-    let r = other-part (λ (a : VvcAps). a.lmcs) k.result c.no_lmcs_in-in-Alf.ensures k.ensures.answer k.ensures.others.0 (in-limits _ o.0 ∙ ap read_rbsp (sym o.1)) in record { answer = r.0; head = r.1.0; lmcs = r.1.1 }
+    let r = other-part (λ (a : VvcAps). a.lmcs) k.result c.no_lmcs_in.ensures k.ensures.answer k.ensures.others.0 (in-limits _ o.0 ∙ ap read_rbsp (sym o.1)) in record { answer = r.0; head = r.1.0; lmcs = r.1.1 }
 
 pub returns-in-Lmcs : goal.returns-in-Lmcs
 returns-in-Lmcs c =

@@ -10,13 +10,13 @@ use Rattle.aps.proofs.scaling_set.parse_scaling_rbsp.Goals as goal
 pub returns-in-Err : goal.returns-in-Err
 unfolding empty_set
 returns-in-Err c =
-    let r = refused-part (λ (a : VvcAps). a.scaling) c.refuse_head.result c.no_scaling_in.ensures _ c.refuse_head.ensures refl c.in-Err.ensures in record { answer = r.0; head = r.1.0; scaling = r.1.1 }
+    let r = refused-part (λ (a : VvcAps). a.scaling) c.refuse_head.result c.no_scaling_in-in-Err.ensures _ c.refuse_head.ensures refl c.in-Err.ensures in record { answer = r.0; head = r.1.0; scaling = r.1.1 }
 
 pub returns-in-Alf : goal.returns-in-Alf
 returns-in-Alf c =
     let o = c.in-Ok.ensures in
     let k = c.alf_head in
-    let r = other-part (λ (a : VvcAps). a.scaling) k.result c.no_scaling_in-in-Alf.ensures k.ensures.answer k.ensures.others.1 (in-limits _ o.0 ∙ ap read_rbsp (sym o.1)) in record { answer = r.0; head = r.1.0; scaling = r.1.1 }
+    let r = other-part (λ (a : VvcAps). a.scaling) k.result c.no_scaling_in.ensures k.ensures.answer k.ensures.others.1 (in-limits _ o.0 ∙ ap read_rbsp (sym o.1)) in record { answer = r.0; head = r.1.0; scaling = r.1.1 }
 
 pub returns-in-Lmcs : goal.returns-in-Lmcs
 returns-in-Lmcs c =

@@ -8,17 +8,17 @@ use Rattle.aps.proofs.RbspSteps.{scaling-refused, scaling-id, scaling-set, set-c
 use Rattle.aps.proofs.ScalingKeep.{kept-read}
 use Rattle.aps.proofs.scaling_set.read_scaling_set.Goals as goal
 
-pub returns-in_err-parse_scaling_list_data : goal.returns-in_err-parse_scaling_list_data
-returns-in_err-parse_scaling_list_data c =
-    let H = rw c.requires.1 at c.requires.2 in
-    let e = sym (rw (c.requires.0, kept-read) at c.in_err-parse_scaling_list_data.ensures.field) in
-    filled-exit _ _ _ _ c.from_residual.ensures.1 (sym (scaling-refused _ _ _ H _ e))
-
 pub returns-then-head-gt-MAX_ID : goal.returns-then-head-gt-MAX_ID
 returns-then-head-gt-MAX_ID c =
     let H = rw c.requires.1 at c.requires.2 in
     let e = sym (rw (c.requires.0, kept-read) at c.in_ok-parse_scaling_list_data.ensures.field) in
     sym (scaling-id _ _ _ H _ _ e c.if-head-gt-MAX_ID.true)
+
+pub returns-in_err-parse_scaling_list_data : goal.returns-in_err-parse_scaling_list_data
+returns-in_err-parse_scaling_list_data c =
+    let H = rw c.requires.1 at c.requires.2 in
+    let e = sym (rw (c.requires.0, kept-read) at c.in_err-parse_scaling_list_data.ensures.field) in
+    filled-exit _ _ _ _ c.from_residual.ensures.1 (sym (scaling-refused _ _ _ H _ e))
 
 pub returns-in_err-head : goal.returns-in_err-head
 returns-in_err-head c =

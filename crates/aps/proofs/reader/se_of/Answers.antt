@@ -2,7 +2,7 @@
 use native.Mathlib.Omega.{arith}
 use Rattle.bitstream.proofs.CodeLaws.{se-odd, se-even, se-even-fits}
 use Rattle.aps.proofs.IntegerLaws.{se-abs}
-use Rattle.aps.proofs.fields.se_of.Goals as goal
+use Rattle.aps.proofs.reader.se_of.Goals as goal
 
 pub returns-then-k-eq1 : goal.returns-then-k-eq1
 returns-then-k-eq1 c =
