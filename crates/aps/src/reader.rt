@@ -168,6 +168,7 @@ impl<'a> Reader<'a> {
     }
 
     // ue(v) in 0..most.
+    #[inline(always)]
     pub(crate) fn ue_to(&mut self, codes: &[u16; 512], most: u32) -> Result<u32, Refusal>
         requires { ShortCodes codes.now }
         ensures { Reads (ue_to most) (given result self.new.at) self.old self.new }
@@ -208,6 +209,7 @@ impl<'a> Reader<'a> {
     }
 
     // A magnitude in 0..128, and its sign if it is not 0: at most 17 bits and the sign, which is sent unless the first bit is 1.
+    #[inline(always)]
     pub(crate) fn coefficient(&mut self, codes: &[u16; 512]) -> Result<(u32, bool), Refusal>
         requires { ShortCodes codes.now }
         ensures { Reads coefficient (given result self.new.at) self.old self.new }
@@ -230,6 +232,7 @@ impl<'a> Reader<'a> {
     }
 
     // One that the word does not hold, or that is refused.
+    #[inline(always)]
     fn long_coefficient(&mut self, codes: &[u16; 512]) -> Result<(u32, bool), Refusal>
         requires { ShortCodes codes.now }
         ensures { Reads coefficient (given result self.new.at) self.old self.new }
