@@ -20,6 +20,7 @@ pub(crate) struct Reader<'a> {
     ghost known: { IsWindow bytes.now at left bits },
 }
 
+// What every field passes is inlined into the loops that read.
 impl<'a> Reader<'a> {
     ghost use Rattle.std.specs.Prelude.{pos, negsuc};
     ghost use Rattle.bitstream.specs.Fields.{read_trailing};
@@ -168,7 +169,6 @@ impl<'a> Reader<'a> {
     }
 
     // ue(v) in 0..most.
-    #[inline(always)]
     pub(crate) fn ue_to(&mut self, codes: &[u16; 512], most: u32) -> Result<u32, Refusal>
         requires { ShortCodes codes.now }
         ensures { Reads (ue_to most) (given result self.new.at) self.old self.new }
