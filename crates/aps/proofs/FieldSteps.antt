@@ -8,16 +8,15 @@ use native.Mathlib.Omega.{arith}
 use borrow.Author.Tests.{ltb-true, lt-ltb}
 use lib.Dec.{ltb, eqb, leb}
 use lib.ListN.{length}
-use Rattle.bitstream.specs.Outcome.{Outcome, value, refused, map_outcome, ◌then◌}
+use Rattle.bitstream.specs.Outcome.{Outcome, value, refused, ◌then◌}
 use Rattle.bitstream.specs.Bits.{field_at}
-use Rattle.bitstream.specs.Fields.{read_u, lacks, read_ue, ue_asked, se_value}
-use Rattle.bitstream.specs.Reading.{lacking_for, ue_at, ue_lacking, se_at, se_lacking}
+use Rattle.bitstream.specs.Fields.{read_u, lacks, read_ue, ue_asked}
+use Rattle.bitstream.specs.Reading.{lacking_for, ue_at, ue_lacking}
 use Rattle.bitstream.proofs.CodeLaws.{value-refused}
 use Rattle.bitstream.proofs.FieldLaws.{field_lt}
-use Rattle.bitstream.proofs.CallLaws.{ue-in, se-lacks}
-use Rattle.bitstream.proofs.CallLaws as Call
+use Rattle.bitstream.proofs.CallLaws.{ue-in}
 use Rattle.aps.specs.Codec.{Codec, whole, u, ue, ◌▷◌, via, judged, when, each_from}
-use Rattle.aps.specs.Elements.{flag, ue_to, se, no_flag, signed}
+use Rattle.aps.specs.Elements.{flag, ue_to, no_flag, signed}
 use Rattle.aps.proofs.FieldLaws.{lacks-none, lacks-inside}
 use Rattle.aps.proofs.CodecLaws.{and_left, and_right}
 use Rattle.aps.proofs.Gives.{Gives, given}
@@ -92,7 +91,6 @@ flag-there s p {b} {q} e = go (lacks s p 1) refl (e ∙ flag-read s p)
     go true f g = absurd (value-refused g)
     go false f g = (f, cc, cc)
 
-
 -- the first n entries of an array are of w bits each, and bits are lacking for one of them
 pub each-lacking : (k : ℕ → Codec ℕ) (w i n m : ℕ) (s : List ℕ) (p : ℕ) → n ≤ m → ((j q : ℕ) → i ≤ j → j < i + n → (k j).read s q ≡ (u w).read s q)
     → lacks s p (w * n) ≡ true → (each_from i m k).read s p ≡ refused 1
@@ -109,7 +107,7 @@ each-lacking k w i (suc n) (suc m) s p h f e =
     go true g h = refl
     go false g h = rw (h g)
 
--- ---- ue(v) and se(v), as the calls answer them
+-- ---- ue(v), as the calls answer it
 
 whole-lacking : (o : Outcome ℕ) (b : Bool) → lacking_for o b ≡ true → whole b o ≡ refused 1
 unfolding whole
@@ -120,14 +118,6 @@ whole_here : (o : Outcome ℕ) (b : Bool) → lacking_for o b ≡ false → whol
 unfolding whole
 whole_here (value v q) b e = rw e
 whole_here (refused n) b e = refl
-
-pub se-of-ue : (s : List ℕ) (p : ℕ) {o : Outcome ℕ} → ue.read s p ≡ o → se.read s p ≡ map_outcome se_value o
-unfolding se via
-se-of-ue s p {o} e = rw e (go o)
-  where
-    go : (o : Outcome ℕ) → ◌then◌ o (λ v q. value (se_value v) q) ≡ map_outcome se_value o
-    go (value v q) = refl
-    go (refused n) = refl
 
 module _ (s : List ℕ) (p : ℕ) (h : length s ≤ 65536) (l : p ≤ 1048576) where
   pub ue-lacking : ue_lacking s p ≡ true → ue.read s p ≡ refused 1

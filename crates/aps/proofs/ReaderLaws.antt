@@ -17,7 +17,7 @@ use Rattle.bitstream.specs.Fields.{read_trailing, trailing_value, trailing_width
 use Rattle.bitstream.specs.Windows.{IsWindow}
 use Rattle.bitstream.specs.declared.Refusal.{Refusal}
 use Rattle.bitstream.proofs.CodeLaws.{value-refused}
-use Rattle.aps.specs.Codec.{Codec, u, ue, ◌▷◌, via, judged, Inferred, when, each, provided}
+use Rattle.aps.specs.Codec.{Codec, u, ue, ◌▷◌, via, judged, Inferred, when, each}
 use Rattle.aps.specs.Elements.{apart, firsts, seconds, zipped, ue_to, signed}
 use Rattle.aps.proofs.FieldSteps.{signed-u-lt}
 use Rattle.aps.proofs.PairLaws.{zipped-there}

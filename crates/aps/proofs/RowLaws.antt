@@ -2,21 +2,16 @@
 use mathlib.Core.Path.{◌≡◌, refl, sym, ap, ◌∙◌}
 use mathlib.Core.List.{List, [], ◌∷◌, ◌++◌, append_assoc}
 use Prim.Native.Nat.{ℕ, zero, suc, ◌+◌, ◌-◌, ◌*◌, ◌≤◌, ◌<◌}
-use native.Mathlib.Nat.{add-zero, zero-add, add-suc, suc-add, mul-zero, mul-suc, suc-mul}
-use native.Mathlib.Numerals.{add-one, unary_clauses}
+use native.Mathlib.Nat.{zero-add, add-suc, mul-zero, mul-suc, suc-mul}
 use native.Mathlib.Omega.{arith}
 use borrow.Rule.Slice.PartMut.{put_mid, mid_of}
-use lib.ListN.{length, get_or, take, drop, set, replicate, length-set, length-drop, length-append}
+use lib.ListN.{length, take, drop, set, replicate, length-set, length-drop, length-append}
 use Rattle.std.proofs.lemmas.List.{take-replicate, drop-replicate}
-use lib.Seq.{sets, sets-eq, take-suc, take-set-le, drop-set-add, length-take-le, take_all, take_at, drop_at, drop-drop}
+use lib.Seq.{sets, sets-eq, take-set-le, drop-set-add, length-take-le, take_at, drop_at, drop-drop}
 use Rattle.aps.specs.Elements.{zipped, rows_of}
 use Rattle.aps.proofs.Steps.{zipped-set}
 
 module _ {A : Type 0} where
-  sets-snoc : (xs l : List A) (o : ℕ) (x : A) → sets l o (xs ++ x ∷ []) ≡ set (sets l o xs) (o + length xs) x
-  sets-snoc [] l o x = rw (add-zero o)
-  sets-snoc (y ∷ xs) l o x = rw (add-suc o (length xs), ← suc-add o (length xs)) (sets-snoc xs (set l o y) (suc o) x)
-
   -- a row that was lent is stored where it stood
   pub part-stored : (l xs : List A) (o k : ℕ) → length xs ≡ k → o + k ≤ length l → put_mid o k l xs ≡ sets l o xs
   part-stored l xs o k n h =

@@ -40,7 +40,6 @@ module _ {s : List ℕ} {p left w : ℕ} (h : IsWindow s p left w) where
 
 -- a field that passes the input's end, and one that does not
 module _ {A : Type 0} (s : List ℕ) (q : ℕ) (a : A) {o : Outcome A} (e : ends_at s q a ≡ o) where
-
   pub ends-inside : q ≤ length s * 8 → o ≡ value a q
   ends-inside l = sym e ∙ rw (le-ltb (length s * 8) q l)
 
