@@ -1,4 +1,5 @@
 -- A table without a set: places looked at one after another, and its list.
+use Rattle.std.specs.Prelude.{Result, Ok, Err, is_ok}
 use borrow.Author.Tests.{eqb-true, eqb-false, ne_eqb, le-ltb}
 use mathlib.Core.Path.{◌≡◌, refl, sym, ap, ◌∙◌}
 use mathlib.Core.Bool.{true, false}
@@ -10,34 +11,24 @@ use lib.Dec.{eqb}
 use lib.ListN.{length}
 use Rattle.bitstream.specs.Outcome.{value}
 use Rattle.bitstream.specs.Escapes.{put_bytes}
+use Rattle.aps.specs.declared.aps.ApsHead.{ApsHead}
 use Rattle.aps.specs.declared.aps.VvcAps.{VvcAps}
 use Rattle.bitstream.specs.declared.Refusal.{Refusal}
-use Rattle.aps_table.specs.Places.{Entries, ids, names, present, filled_among, filled, held, found, missing, found_in}
-use Rattle.aps_table.specs.Answers.{lookup_says, set_looked}
-use Rattle.aps_table.specs.declared.table.LookupOutcome.{LookupOutcome}
-use Rattle.aps_table.specs.declared.table.LookupOutcome.TheVariants as Lookup
+use Rattle.aps_table.specs.Places.{Entries, ids, names, present, filled_among, filled, held, found_in}
+use Rattle.aps_table.specs.Answers.{head_answer, head_looked}
 use Rattle.aps_table.specs.List.{listed, any_extended, list_due, write_list}
-
--- found is not missing
-said-found : {a : VvcAps} {n : ℕ} → found a ≡ missing n → ⊥
-said-found e = let z : ◌≡◌ {A = ℕ} 0 1 = cc in omega arith
-
-said-missing : {a : VvcAps} {n : ℕ} → missing n ≡ found a → ⊥
-said-missing e = let z : ◌≡◌ {A = ℕ} 0 1 = cc in omega arith
 
 -- no set
 none-present : (a : Option VvcAps) → eqb (present a) 1 ≡ false → present a ≡ 0
 none-present none e = refl
 none-present (some a) e = cc
 
--- a lookup's outcome tells whether there is one
-pub found-present : {o : LookupOutcome} (m : Option VvcAps) → lookup_says o (set_looked (found_in m)) ≡ found_in m → o ≡ Lookup.Found → true ≡ eqb (present m) 1
-found-present none e f = absurd (said-found (rw f at e))
-found-present (some a) e f = refl
-
-pub missing-present : {o : LookupOutcome} (m : Option VvcAps) (why : Refusal) → lookup_says o (set_looked (found_in m)) ≡ found_in m → o ≡ Lookup.Refused why → false ≡ eqb (present m) 1
-missing-present none why e f = refl
-missing-present (some a) why e f = absurd (said-missing (rw f at e))
+-- a lookup's answer tells whether there is one
+pub answer-present : (r : Result ApsHead Refusal) (m : Option VvcAps) → head_answer r ≡ head_looked (found_in m) → is_ok r ≡ eqb (present m) 1
+answer-present (Ok h) none e = absurd cc
+answer-present (Ok h) (some a) e = refl
+answer-present (Err why) none e = refl
+answer-present (Err why) (some a) e = absurd cc
 
 -- no set among so many
 none_of : (a : Option VvcAps) (m : ℕ) → present a + m ≡ 0 → (a ≡ none) × (m ≡ 0)

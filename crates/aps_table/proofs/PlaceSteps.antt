@@ -1,6 +1,6 @@
 -- The places of the table: where each stands, bytes put into it and taken out of it, and the set that it holds.
 use borrow.Author.Tests.{ltb-true, leb-true, le-ltb, not-true, not-false}
-use mathlib.Core.Path.{◌≡◌, refl, sym, ap, ◌∙◌}
+use mathlib.Core.Path.{◌≡◌, refl, ap, ◌∙◌}
 use mathlib.Core.Bool.{Bool, true, false, not, ◌&&◌}
 use mathlib.Core.List.{List}
 use mathlib.Core.Option.{none, some}
@@ -9,21 +9,14 @@ use native.Mathlib.Omega.{arith}
 use lib.Dec.{leb, ltb, eqb}
 use lib.ListN.{length, get_or, set, take, drop, drop_of_length-le, length-take}
 use lib.Seq.{sets, drop-cons}
-use Rattle.bitstream.specs.Outcome.{Outcome, value, number}
-use Rattle.bitstream.specs.declared.Refusal.{Refusal}
+use Rattle.bitstream.specs.Outcome.{Outcome, value}
 use Rattle.aps.specs.Kinds.{largest_id, most_bytes}
-use Rattle.aps.specs.ApsSyntax.{number_of, empty_set}
+use Rattle.aps.specs.ApsSyntax.{number_of}
 use Rattle.aps.specs.Rbsp.{read_rbsp, parse_aps_rbsp}
-use Rattle.aps.specs.Reading.{head_of}
-use Rattle.aps.specs.declared.aps.ApsHead.{ApsHead}
 use Rattle.aps.specs.declared.aps.VvcAps.{VvcAps}
 use Rattle.aps.proofs.CodecLaws.{and_left, and_right}
 use Rattle.aps.proofs.RbspSteps.{in-limits}
-use Rattle.aps_table.specs.Places.{Names, named, place_at, table_bytes, place_bytes, kind_in, id_in, under, held, Looked, found, missing, found_in, lookup_in, looked_up}
-use Rattle.aps_table.specs.Answers.{lookup_says, lookup_answer, set_looked}
-use Rattle.aps_table.specs.declared.table.LookupAnswer.{LookupAnswer}
-use Rattle.aps_table.specs.declared.table.LookupOutcome.TheVariants as Lookup
-use Rattle.aps_table.specs.declared.table.HeadLookup.{HeadLookup}
+use Rattle.aps_table.specs.Places.{Names, named, place_at, table_bytes, place_bytes, kind_in, id_in, under, held, missing, found_in, lookup_in, looked_up}
 
 -- ---- where they stand
 
@@ -95,23 +88,6 @@ pub place_read : (table : List ℕ) (k i n base : ℕ) → Names k i → n ≡ m
 place_read table k i n base h s a = ap parse_aps_rbsp (place-part table k i n base s a) ∙ in-limits (place_bytes table k i) (omega (arith, place-most table k i h))
 
 -- ---- the set that a place holds
-
--- an answer that says what another definition comes to
-pub answer-as : (r : LookupAnswer) {l m : Looked} → (lookup_answer r ≡ l) × (r.set ≡ set_looked l) → m ≡ l → (lookup_answer r ≡ m) × (r.set ≡ set_looked m)
-answer-as r h e = (h.0 ∙ sym e, h.1 ∙ ap set_looked (sym e))
-
--- the same of an answer without arrays
-pub head_as : (r : HeadLookup) {l m : Looked} → (lookup_says r.outcome (set_looked l) ≡ l) × (r.head ≡ head_of (set_looked l)) → m ≡ l
-    → (lookup_says r.outcome (set_looked m) ≡ m) × (r.head ≡ head_of (set_looked m))
-head_as r h e = rw (e) h
-
--- where there is no set, and where there is one
-pub head-missing : (r : HeadLookup) (why : Refusal) {m : Looked} → (r.outcome ≡ Lookup.Refused why) × (r.head ≡ head_of empty_set) → m ≡ missing (number why)
-    → (lookup_says r.outcome (set_looked m) ≡ m) × (r.head ≡ head_of (set_looked m))
-head-missing r why (o, h) e = rw (e) (rw (o) refl, h)
-
-pub head-found : (h : ApsHead) (a : VvcAps) {m : Looked} → h ≡ head_of a → m ≡ found a → (lookup_says Lookup.Found (set_looked m) ≡ m) × (h ≡ head_of (set_looked m))
-head-found h a f e = rw (e) (refl, f)
 
 module _ (k i : ℕ) (a : VvcAps) {q : ℕ} {o : Outcome VvcAps} (e : o ≡ value a q) {b : Bool} (f : b ≡ (eqb (number_of a.kind) k && eqb a.aps_adaptation_parameter_set_id i)) where
   -- a place with a set of another kind or id is empty

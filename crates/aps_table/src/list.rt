@@ -8,7 +8,7 @@ ghost use Rattle.aps_table.specs.List.{coded, entry, joined, listed, write_list}
 ghost use Rattle.aps_table.specs.Inner.{up_to, AtMost, most_listed, list_at, list_bytes};
 
 use crate::places::{ALF_PLACES, LMCS_PLACES, SCALING_PLACES, Table, is_own, place_at, place_size};
-use crate::table::{LookupOutcome, head_held};
+use crate::table::head_held;
 use aps::aps::{Alf, ApsOutcome, Lmcs, Scaling, parse_aps_head};
 use aps::nal_header::NAL_TYPE_PREFIX_APS;
 use aps::write::{copy_out, write_nal};
@@ -133,12 +133,7 @@ fn is_held(table: &Table, kind: u8, id: u8) -> bool
     if bytes[at] != kind * 32 + id {
         return false;
     }
-    let found = head_held(table, kind, id);
-    let outcome = found.outcome;
-    match outcome {
-        LookupOutcome::Found => true,
-        LookupOutcome::Refused(_) => false,
-    }
+    head_held(table, kind, id).is_ok()
 }
 
 // No place of a kind holds one.

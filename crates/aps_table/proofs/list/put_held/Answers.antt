@@ -56,7 +56,7 @@ pub returns-else-head : goal.returns-else-head
 returns-else-head c =
     let a = set_given (parse_aps_rbsp c.args.bytes.now) in
     let e = read_as c.args.bytes.now a c.requires.1 c.parse_aps_head-reading.ensures.answer c.in-Read.is in
-    let w = held_plain c.args.bytes.now a _ e (under-own c.args.kind c.args.id a e (own (goal.at.returns-else-head c).After-is_own) (ap not c.if-not-is_own.false)) ((extended-is (goal.at.returns-else-head c).After-parse_aps_head-reading) ∙ c.if-head.false) (λ j. omega (arith, c.shared_slice_known-1.given j)) in
+    let w = held_plain c.args.bytes.now a _ e (under-own c.args.kind c.args.id a e (own (goal.at.returns-else-head c).After-is_own) (ap not c.if-not-is_own.false)) ((extended-is (goal.at.returns-else-head c).After-parse_aps_head-reading) ∙ c.if-head.false) (λ j. omega (arith, c.type_inv.bytes j)) in
     record { buffer_after = c.put_unit.ensures.buffer_after ∙ ap (joined (value (take c.args.at c.args.buffer.now) c.args.at)) (sym w); same = c.put_unit.ensures.same }
 
 pub returns-in-Refused : goal.returns-in-Refused

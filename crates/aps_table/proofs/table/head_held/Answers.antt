@@ -1,6 +1,8 @@
 -- `head_held`: what the bytes of the place are read as, then whether the set is its own.
-use mathlib.Core.Path.{◌≡◌, ap, ◌∙◌}
+use Rattle.std.specs.Prelude.{Ok}
+use mathlib.Core.Path.{◌≡◌, sym, ap, ◌∙◌}
 use mathlib.Core.Bool.{◌&&◌}
+use mathlib.Core.Option.{Option}
 use lib.Dec.{eqb}
 use Rattle.bitstream.specs.Outcome.{Outcome}
 use Rattle.aps.specs.ApsSyntax.{number_of}
@@ -11,7 +13,8 @@ use Rattle.aps.specs.declared.aps.ApsOutcome.{ApsOutcome}
 use Rattle.aps.specs.declared.aps.VvcAps.{VvcAps}
 use Rattle.aps.proofs.Answers.{answered}
 use Rattle.aps_table.specs.Places.{place_bytes, found_in, under, held}
-use Rattle.aps_table.proofs.PlaceSteps.{head-missing, head-found, under-other, under-own}
+use Rattle.aps_table.specs.Answers.{head_looked}
+use Rattle.aps_table.proofs.PlaceSteps.{under-other, under-own}
 use mathlib.Core.Bool.{not}
 use Rattle.aps_table.proofs.table.head_held.Goals as goal
 use Rattle.aps_table.proofs.table.head_held.Goals.{After-is_own}
@@ -28,7 +31,7 @@ returns-then-not-is_own c =
     let b = c.args in
     let a = set_given (read_rbsp (place_bytes b.table.now b.kind b.id)) in
     let e = answered (λ (o : ApsOutcome). outcome_read o a) c.in-Read.is c.read_place_head-reading.ensures.answer in
-    let r = head-missing c.no_head.result _ c.no_head.ensures (ap found_in (under-other b.kind b.id a e (own (goal.at.returns-then-not-is_own c).After-is_own) (ap not c.if-not-is_own.true))) in record { answer = r.0; head = r.1 }
+    sym (ap (λ (o : Option VvcAps). head_looked (found_in o)) (under-other b.kind b.id a e (own (goal.at.returns-then-not-is_own c).After-is_own) (ap not c.if-not-is_own.true)))
 
 pub returns-else-not-is_own : goal.returns-else-not-is_own
 unfolding held
@@ -36,7 +39,7 @@ returns-else-not-is_own c =
     let b = c.args in
     let a = set_given (read_rbsp (place_bytes b.table.now b.kind b.id)) in
     let e = answered (λ (o : ApsOutcome). outcome_read o a) c.in-Read.is c.read_place_head-reading.ensures.answer in
-    let r = head-found c.read_place_head-reading.result.head a c.read_place_head-reading.ensures.head (ap found_in (under-own b.kind b.id a e (own (goal.at.returns-else-not-is_own c).After-is_own) (ap not c.if-not-is_own.false))) in record { answer = r.0; head = r.1 }
+    ap Ok c.read_place_head-reading.ensures.head ∙ sym (ap (λ (o : Option VvcAps). head_looked (found_in o)) (under-own b.kind b.id a e (own (goal.at.returns-else-not-is_own c).After-is_own) (ap not c.if-not-is_own.false)))
 
 pub returns-in-Refused : goal.returns-in-Refused
 unfolding held
@@ -44,4 +47,4 @@ returns-in-Refused c =
     let b = c.args in
     let a = set_given (read_rbsp (place_bytes b.table.now b.kind b.id)) in
     let e = answered (λ (o : ApsOutcome). outcome_read o a) c.in-Refused.is c.read_place_head-reading.ensures.answer in
-    let r = head-missing c.no_head-in-Refused.result _ c.no_head-in-Refused.ensures (ap (λ (o : Outcome VvcAps). found_in (under b.kind b.id o)) e) in record { answer = r.0; head = r.1 }
+    sym (ap (λ (o : Outcome VvcAps). head_looked (found_in (under b.kind b.id o))) e)

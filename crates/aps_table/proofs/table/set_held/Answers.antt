@@ -6,8 +6,7 @@ use Rattle.aps.specs.declared.aps.VvcAps.{VvcAps}
 use Rattle.aps.specs.Reading.{outcome_read}
 use Rattle.aps.proofs.Answers.{answered}
 use Rattle.aps_table.specs.Places.{found_in, under, held}
-use Rattle.aps_table.specs.Answers.{set_looked}
-use Rattle.aps_table.proofs.PlaceSteps.{answer-as, under-other, under-own}
+use Rattle.aps_table.proofs.PlaceSteps.{under-other, under-own}
 use mathlib.Core.Bool.{not}
 use Rattle.aps_table.proofs.table.set_held.Goals as goal
 
@@ -17,7 +16,7 @@ returns-then-not-is_own c =
     let b = c.args in
     let a = c.read_place-reading.result.set in
     let e = answered (λ (o : ApsOutcome). outcome_read o a) c.in-Read.is c.read_place-reading.ensures in
-    let r = answer-as c.no_set.result c.no_set.ensures (ap found_in (under-other b.kind b.id a e c.is_own.ensures (ap not c.if-not-is_own.true))) in record { answer = r.0; set = r.1 }
+    sym (ap found_in (under-other b.kind b.id a e c.is_own.ensures (ap not c.if-not-is_own.true)))
 
 pub returns-else-not-is_own : goal.returns-else-not-is_own
 unfolding held
@@ -25,8 +24,7 @@ returns-else-not-is_own c =
     let b = c.args in
     let a = c.read_place-reading.result.set in
     let e = answered (λ (o : ApsOutcome). outcome_read o a) c.in-Read.is c.read_place-reading.ensures in
-    let f = ap found_in (under-own b.kind b.id a e c.is_own.ensures (ap not c.if-not-is_own.false)) in
-    record { answer = sym f; set = ap set_looked (sym f) }
+    sym (ap found_in (under-own b.kind b.id a e c.is_own.ensures (ap not c.if-not-is_own.false)))
 
 pub returns-in-Refused : goal.returns-in-Refused
 unfolding held
@@ -34,4 +32,4 @@ returns-in-Refused c =
     let b = c.args in
     let a = c.read_place-reading.result.set in
     let e = answered (λ (o : ApsOutcome). outcome_read o a) c.in-Refused.is c.read_place-reading.ensures in
-    let r = answer-as c.no_set-in-Refused.result c.no_set-in-Refused.ensures (ap (λ (o : Outcome VvcAps). found_in (under b.kind b.id o)) e) in record { answer = r.0; set = r.1 }
+    sym (ap (λ (o : Outcome VvcAps). found_in (under b.kind b.id o)) e)
