@@ -74,19 +74,10 @@ abbrev pub up_to : Result ℕ Refusal → List ℕ → Outcome (List ℕ)
 up_to (Ok n) l = value (take n l) n
 up_to (Err e) l = refused (number e)
 
--- they are n or fewer
-abbrev pub AtMost : Result ℕ Refusal → ℕ → Type 0
-AtMost (Ok m) n = m ≤ n
-AtMost (Err e) n = Unit {0}
-
 -- the most bytes of a unit in the list: start code, header, and the RBSP with escapes put in
 abbrev pub most_listed : ℕ → ℕ
 most_listed k = 6 + most_bytes k * 3 / 2
 
--- the most bytes before the unit of a kind and id
-abbrev pub list_at : ℕ → ℕ → ℕ
-list_at k i = offset most_listed k i
-
 -- no list is longer
 abbrev pub list_bytes : ℕ
-list_bytes = list_at 2 (largest_id 2 + 1)
+list_bytes = offset most_listed 2 (largest_id 2 + 1)

@@ -1,20 +1,17 @@
 // The table: a unit alone and a stream taken into it, and the lookup.
 ghost use Rattle.std.specs.Prelude.{◌≡◌, true, false, ◌+◌, ◌≤◌, ◌<◌, length};
 ghost use Rattle.aps.specs.Unit.{work_after};
-ghost use Rattle.aps.specs.Rbsp.{read_rbsp};
-ghost use Rattle.aps.specs.Reading.{outcome_read, outcome_aps, set_given, head_of};
+ghost use Rattle.aps.specs.ApsSyntax.{number_of};
 ghost use Rattle.aps_table.specs.Split.{split};
 ghost use Rattle.aps_table.specs.Inner.{splits, units_of};
-ghost use Rattle.aps_table.specs.Places.{Names, place_bytes, found_in, held, looked_up};
+ghost use Rattle.aps_table.specs.Places.{found_in, held, looked_up};
 ghost use Rattle.aps_table.specs.Taking.{Verdict, is_passed, take_units, work_units, tally, no_units, count as count_of};
 ghost use Rattle.aps_table.specs.Calls.{stream, alone, single, table_after, answer_to, work_after_stream};
 ghost use Rattle.aps_table.specs.Answers.{unit_answer, stream_answer, lookup_answer, head_answer, head_looked};
 
-use crate::places::{Table, is_named, is_own, place_at, place_size, store};
+use crate::places::{Place, Table};
 use crate::split::{check_split, next_unit};
-use aps::aps::{
-    ApsHead, ApsOutcome, ApsReading, HeadReading, VvcAps, number_of, parse_aps_head, parse_aps_rbsp,
-};
+use aps::aps::{ApsHead, ApsOutcome, VvcAps, parse_aps_head, parse_aps_rbsp};
 use aps::unit::{is_aps, parse_unit_head};
 use bitstream::{LONGEST_INPUT, Refusal};
 
@@ -81,9 +78,11 @@ fn take_aps(table: &mut Table, unit: &[u8], work: &mut [u8]) -> Result<Taken, Re
     let head = reading.head;
     match outcome {
         ApsOutcome::Read(end) => {
-            let kind = head.kind;
-            let at = place_at(number_of(kind), head.aps_adaptation_parameter_set_id);
-            store(table, at, &work[..(end + 7) / 8]);
+            let place = Place {
+                kind: head.kind,
+                id: head.aps_adaptation_parameter_set_id,
+            };
+            place.store(table, &work[..(end + 7) / 8]);
             Ok(Taken::Accepted)
         }
         ApsOutcome::Refused(why) => Err(why),
@@ -139,29 +138,16 @@ pub fn take_stream(table: &mut Table, bytes: &[u8], work: &mut [u8]) -> Result<C
     Ok(take_units(table, bytes, work))
 }
 
-// What the bytes of a place are read as.
-fn read_place(table: &Table, kind: u8, id: u8) -> ApsReading
-    requires { Names kind id }
-    ensures { outcome_aps result ≡ read_rbsp (place_bytes table.now kind id) }
-{
-    let bytes: &[u8] = table;
-    let at = place_at(kind, id);
-    let end = at + place_size(kind);
-    parse_aps_rbsp(&bytes[at..end])
-}
-
 // The set of a place, or 6.
-fn set_held(table: &Table, kind: u8, id: u8) -> Result<VvcAps, Refusal>
-    requires { Names kind id }
-    ensures { lookup_answer result ≡ found_in (held table.now kind id) }
+fn set_held(table: &Table, place: Place) -> Result<VvcAps, Refusal>
+    ensures { lookup_answer result ≡ found_in (held table.now (number_of place.kind) place.id) }
 {
-    let reading = read_place(table, kind, id);
+    let reading = parse_aps_rbsp(place.bytes(table));
     let outcome = reading.outcome;
     let set = reading.set;
     match outcome {
         ApsOutcome::Read(_) => {
-            let own = set.kind;
-            if !is_own(own, set.aps_adaptation_parameter_set_id, kind, id) {
+            if !place.is_of(set.kind, set.aps_adaptation_parameter_set_id) {
                 return Err(Refusal::EmptyPlace);
             }
             Ok(set)
@@ -174,37 +160,19 @@ fn set_held(table: &Table, kind: u8, id: u8) -> Result<VvcAps, Refusal>
 pub fn lookup(table: &Table, kind: u8, id: u8) -> Result<VvcAps, Refusal>
     ensures { lookup_answer result ≡ looked_up table.now kind id }
 {
-    if !is_named(kind, id) {
-        return Err(Refusal::InvalidData);
-    }
-    set_held(table, kind, id)
-}
-
-// What the bytes of a place are read as, without arrays.
-fn read_place_head(table: &Table, kind: u8, id: u8) -> HeadReading
-    requires { Names kind id }
-    ensures answer { outcome_read result.outcome (set_given (read_rbsp (place_bytes table.now kind id)))
-        ≡ read_rbsp (place_bytes table.now kind id) }
-    ensures head { result.head ≡ head_of (set_given (read_rbsp (place_bytes table.now kind id))) }
-{
-    let bytes: &[u8] = table;
-    let at = place_at(kind, id);
-    let end = at + place_size(kind);
-    parse_aps_head(&bytes[at..end])
+    set_held(table, Place::new(kind, id).ok_or(Refusal::InvalidData)?)
 }
 
 // The head of the set of a place, or 6.
-pub(crate) fn head_held(table: &Table, kind: u8, id: u8) -> Result<ApsHead, Refusal>
-    requires { Names kind id }
-    ensures { head_answer result ≡ head_looked (found_in (held table.now kind id)) }
+pub(crate) fn head_held(table: &Table, place: Place) -> Result<ApsHead, Refusal>
+    ensures { head_answer result ≡ head_looked (found_in (held table.now (number_of place.kind) place.id)) }
 {
-    let reading = read_place_head(table, kind, id);
+    let reading = parse_aps_head(place.bytes(table));
     let outcome = reading.outcome;
     let head = reading.head;
     match outcome {
         ApsOutcome::Read(_) => {
-            let own = head.kind;
-            if !is_own(own, head.aps_adaptation_parameter_set_id, kind, id) {
+            if !place.is_of(head.kind, head.aps_adaptation_parameter_set_id) {
                 return Err(Refusal::EmptyPlace);
             }
             Ok(head)
@@ -217,8 +185,5 @@ pub(crate) fn head_held(table: &Table, kind: u8, id: u8) -> Result<ApsHead, Refu
 pub fn lookup_head(table: &Table, kind: u8, id: u8) -> Result<ApsHead, Refusal>
     ensures { head_answer result ≡ head_looked (looked_up table.now kind id) }
 {
-    if !is_named(kind, id) {
-        return Err(Refusal::InvalidData);
-    }
-    head_held(table, kind, id)
+    head_held(table, Place::new(kind, id).ok_or(Refusal::InvalidData)?)
 }
