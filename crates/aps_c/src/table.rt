@@ -80,7 +80,7 @@ pub fn aps_lookup(table: &Table, kind: u8, id: u8, set: &mut [i64; NUMBERS]) -> 
     let outcome = found.outcome;
     match outcome {
         LookupOutcome::Found => {
-            put_set(found.set, set);
+            put_set(&found.set, set);
             0
         }
         LookupOutcome::Refused(why) => why.into(),
