@@ -36,7 +36,7 @@ fn answered(reading: ApsReading, set: &mut [i64; NUMBERS], end: &mut [u64; 1]) -
     let outcome = reading.outcome;
     match outcome {
         ApsOutcome::Read(q) => {
-            put_set(reading.set, set);
+            put_set(&reading.set, set);
             end[0] = q as u64;
             0
         }

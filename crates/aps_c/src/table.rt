@@ -76,7 +76,7 @@ pub fn aps_lookup(table: &Table, kind: u8, id: u8, set: &mut [i64; NUMBERS]) -> 
 {
     match lookup(table, kind, id) {
         Ok(found) => {
-            put_set(found, set);
+            put_set(&found, set);
             0
         }
         Err(why) => why.into(),
