@@ -17,7 +17,7 @@ use Rattle.aps.specs.AlfSyntax.{alf}
 use Rattle.aps.specs.LmcsSyntax.{lmcs}
 use Rattle.aps.specs.ScalingSyntax.{Entry, scaling_syntax, keep}
 use Rattle.aps.specs.ApsSyntax.{zero_alf, zero_lmcs, zero_scaling, Payload, of_alf, of_lmcs, of_scaling, payload, aps_syntax, to_aps, aps}
-use Rattle.std.specs.Prelude.{Result}
+use Rattle.std.specs.Prelude.{Result, Ok}
 use Rattle.std.specs.Result.{IsErrAnd}
 use Rattle.std.proofs.lemmas.Result.{err_from_is_err_and}
 use Rattle.aps.specs.declared.aps.ApsHead.{ApsHead}
@@ -180,6 +180,10 @@ unfolding parse_aps_rbsp
 in-limits s h = rw (le-ltb _ _ h)
 
 -- ---- what stands before the payload, as the reader takes it
+
+-- what is read of the opened bytes
+pub opened : {s : List ℕ} {w : Reader} {h : ApsHead} → Opens s (Ok (w, h)) → read_rbsp w.bytes.now ≡ parse_aps_rbsp s
+opened {s} o = ap read_rbsp o.1 ∙ sym (in-limits s o.0)
 
 -- what `?` returns
 pub opens-exit : (r : Result (Reader × ApsHead) Refusal) (e : Refusal) (s : List ℕ) → IsErrAnd r (λ y. y ≡ e) → parse_aps_rbsp s ≡ refused (number e) → Opens s r

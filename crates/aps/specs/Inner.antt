@@ -8,7 +8,8 @@ use Rattle.bitstream.specs.declared.Refusal.TheVariants.{Unsupported}
 use Rattle.aps.specs.Elements.{flag}
 use Rattle.aps.specs.ApsSyntax.{number_of, zero_alf, zero_lmcs, zero_scaling}
 use Rattle.aps.specs.Rbsp.{closed, read_rbsp, parse_aps_rbsp}
-use Rattle.aps.specs.Reading.{outcome_read, set_given, head_of}
+use Rattle.aps.specs.Reading.{head_of}
+use Rattle.aps.specs.Reads.{filled}
 use Rattle.aps.specs.declared.alf.VvcAlfLuma.{VvcAlfLuma}
 use Rattle.aps.specs.declared.alf.VvcAlfChroma.{VvcAlfChroma}
 use Rattle.aps.specs.declared.alf.VvcAlfCcFilters.{VvcAlfCcFilters}
@@ -16,16 +17,10 @@ use Rattle.aps.specs.declared.alf.VvcAlfData.{VvcAlfData}
 use Rattle.aps.specs.AlfSyntax.{to_luma, to_cc}
 use Rattle.aps.specs.declared.lmcs.VvcLmcsData.{VvcLmcsData}
 use Rattle.aps.specs.declared.scaling_list.VvcScalingListData.{VvcScalingListData}
-use Rattle.aps.specs.declared.aps.ApsOutcome.{ApsOutcome}
 use Rattle.aps.specs.declared.aps.ApsKind.{ApsKind}
 use Rattle.aps.specs.declared.aps.ApsHead.{ApsHead}
-use Rattle.aps.specs.declared.aps.HeadReading.{HeadReading}
 use Rattle.aps.specs.declared.reader.Reader.{Reader}
-use Rattle.aps.specs.declared.alf_set.AlfReading.{AlfReading}
-use Rattle.aps.specs.declared.lmcs_set.LmcsReading.{LmcsReading}
-use Rattle.aps.specs.declared.scaling_set.ScalingReading.{ScalingReading}
 use Rattle.aps.specs.declared.aps.VvcAps.{VvcAps}
-use Rattle.aps.specs.declared.unit.Admission.{Admission}
 
 -- ---- reading
 
@@ -89,10 +84,6 @@ chroma_of clip count-1 abs sign clips =
 abbrev pub cc_of : ℕ → List ℕ → List Bool → VvcAlfCcFilters
 cc_of count-1 abs sign = to_cc (count-1, (abs, sign))
 
--- what was read is the answer to s
-abbrev pub Answers : ApsOutcome → VvcAps → List ℕ → Type 0
-Answers o a s = (outcome_read o a ≡ read_rbsp s) × (a ≡ set_given (read_rbsp s))
-
 -- a set put together from its head and its arrays
 abbrev pub assembled : ApsHead → VvcAlfData → VvcLmcsData → VvcScalingListData → VvcAps
 assembled h d l s =
@@ -106,27 +97,25 @@ assembled h d l s =
       scaling = s;
     }
 
--- the same of a set of which these are the parts
-abbrev pub Assembles : ApsOutcome → ApsHead → VvcAlfData → VvcLmcsData → VvcScalingListData → List ℕ → Type 0
-Assembles o h d l c s = (a : VvcAps) → a ≡ assembled h d l c → Answers o a s
-
--- the readings of one kind alone
-abbrev pub ReadsAlf : AlfReading → List ℕ → Type 0
-ReadsAlf r s = Assembles r.outcome r.head r.alf zero_lmcs zero_scaling s
-
-abbrev pub ReadsLmcs : LmcsReading → List ℕ → Type 0
-ReadsLmcs r s = Assembles r.outcome r.head zero_alf r.lmcs zero_scaling s
-
-abbrev pub ReadsScaling : ScalingReading → List ℕ → Type 0
-ReadsScaling r s = Assembles r.outcome r.head zero_alf zero_lmcs r.scaling s
-
--- the answer to s without arrays
-abbrev pub Heads : HeadReading → List ℕ → Type 0
-Heads r s = (outcome_read r.outcome (set_given (read_rbsp s)) ≡ read_rbsp s) × (r.head ≡ head_of (set_given (read_rbsp s)))
-
 -- the head that stands before the payload, but for the extension flag
 abbrev pub Heading : List ℕ → ApsHead → Type 0
 Heading s h = Headed s (number_of h.kind) h.aps_adaptation_parameter_set_id h.aps_chroma_present_flag
+
+abbrev pub BareAs : ApsKind → VvcAps → Type 0
+BareAs ApsKind.Alf a = (a.lmcs ≡ zero_lmcs) × (a.scaling ≡ zero_scaling)
+BareAs ApsKind.Lmcs a = (a.alf ≡ zero_alf) × (a.scaling ≡ zero_scaling)
+BareAs ApsKind.Scaling a = (a.alf ≡ zero_alf) × (a.lmcs ≡ zero_lmcs)
+
+-- the arrays of the kinds that a set is not of are 0
+abbrev pub Bare : VvcAps → Type 0
+Bare a = BareAs a.kind a
+
+-- past a payload: the head of the set that o is the answer of, or why there is none
+pub record Passes (r : Result (Unit {0}) Refusal) (h : ApsHead) (q : ℕ) (o : Outcome VvcAps) : Type 0 where
+  pub set : VvcAps
+  pub read : filled r set q ≡ o
+  pub head : head_of set ≡ h
+  pub bare : Bare set
 
 -- the kind that the first bits name, and the reader at the payload
 abbrev pub Opens : List ℕ → Result (Reader × ApsHead) Refusal → Type 0
@@ -143,6 +132,6 @@ abbrev pub Unwrapped : Result ℕ Refusal → Outcome VvcAps → List ℕ → Ty
 Unwrapped (Ok n) o work = (n ≤ length work) × (o ≡ parse_aps_rbsp (take n work))
 Unwrapped (Err e) o work = o ≡ refused (number e)
 
-abbrev pub outcome_admission : Admission → Outcome (Unit {0})
-outcome_admission Admission.Aps = value tt 16
-outcome_admission (Admission.Refused e) = refused (number e)
+abbrev pub outcome_admission : Result (Unit {0}) Refusal → Outcome (Unit {0})
+outcome_admission (Ok x) = value tt 16
+outcome_admission (Err e) = refused (number e)

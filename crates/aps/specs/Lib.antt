@@ -13,3 +13,4 @@ pub mod Reading
 pub mod Writing
 pub mod Writes
 pub mod Inner
+pub mod Payloads

@@ -1,23 +1,18 @@
 -- What the readers answer: a value and the bit where reading ended, or a refusal's number.
+use Rattle.std.specs.Prelude.{Result, Ok, Err}
 use Rattle.bitstream.specs.Outcome.{Outcome, value, refused, number}
-use Rattle.aps.specs.ApsSyntax.{empty_set}
+use Rattle.bitstream.specs.declared.Refusal.{Refusal}
+use Rattle.aps.specs.declared.alf.VvcAlfData.{VvcAlfData}
+use Rattle.aps.specs.declared.lmcs.VvcLmcsData.{VvcLmcsData}
+use Rattle.aps.specs.declared.scaling_list.VvcScalingListData.{VvcScalingListData}
 use Rattle.aps.specs.declared.aps.VvcAps.{VvcAps}
-use Rattle.aps.specs.declared.aps.ApsOutcome.{ApsOutcome}
-use Rattle.aps.specs.declared.aps.ApsOutcome.TheVariants as Aps
-use Rattle.aps.specs.declared.aps.ApsReading.{ApsReading}
+use Rattle.aps.specs.declared.aps.Reading.{Reading}
 use Rattle.aps.specs.declared.aps.ApsHead.{ApsHead}
+use Rattle.aps.specs.declared.payload.ApsOf.{ApsOf}
 
-abbrev pub outcome_read : ApsOutcome → VvcAps → Outcome VvcAps
-outcome_read (Aps.Read q) a = value a q
-outcome_read (Aps.Refused e) a = refused (number e)
-
-abbrev pub outcome_aps : ApsReading → Outcome VvcAps
-outcome_aps r = outcome_read r.outcome r.set
-
--- the set given with an outcome: a refusal's is the empty set
-abbrev pub set_given : Outcome VvcAps → VvcAps
-set_given (value a q) = a
-set_given (refused e) = empty_set
+abbrev pub outcome_reading : {A : Type 0} → Result (Reading A) Refusal → Outcome A
+outcome_reading (Ok r) = value r.value r.end
+outcome_reading (Err e) = refused (number e)
 
 -- a set without its arrays
 abbrev pub head_of : VvcAps → ApsHead
@@ -28,3 +23,13 @@ head_of a =
       aps_chroma_present_flag = a.aps_chroma_present_flag;
       aps_extension_flag = a.aps_extension_flag;
     }
+
+-- a set with the arrays of one kind alone
+abbrev pub alf_part : VvcAps → ApsOf VvcAlfData
+alf_part a = record { head = head_of a; payload = a.alf }
+
+abbrev pub lmcs_part : VvcAps → ApsOf VvcLmcsData
+lmcs_part a = record { head = head_of a; payload = a.lmcs }
+
+abbrev pub scaling_part : VvcAps → ApsOf VvcScalingListData
+scaling_part a = record { head = head_of a; payload = a.scaling }

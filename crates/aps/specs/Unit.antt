@@ -1,12 +1,11 @@
 -- One unit: its header (H.266 7.3.1.2), and the set that it holds (document 01, 'One unit').
-use Rattle.std.specs.Prelude.{Bool, cond, ◌||◌, List, ◌++◌, ℕ, ◌-◌, ◌/◌, ◌%◌, ltb, eqb, length, get_or, drop}
+use Rattle.std.specs.Prelude.{Bool, cond, ◌||◌, List, ◌++◌, ℕ, ◌-◌, ◌/◌, ◌%◌, ltb, eqb, length, get_or, drop, Result, Ok, Err}
 use Rattle.bitstream.specs.Outcome.{Outcome, value, refused, number, ◌then◌}
+use Rattle.bitstream.specs.declared.Refusal.{Refusal}
 use Rattle.bitstream.specs.Escapes.{unescape}
 use Rattle.aps.specs.Rbsp.{read_rbsp}
 use Rattle.aps.specs.declared.aps.VvcAps.{VvcAps}
 use Rattle.aps.specs.declared.nal_header.VvcNalHeader.{VvcNalHeader}
-use Rattle.aps.specs.declared.nal_header.HeaderRead.{HeaderRead}
-use Rattle.aps.specs.declared.nal_header.HeaderRead.TheVariants.{Header, Refused}
 
 -- forbidden_zero_bit, nuh_reserved_zero_bit, nuh_layer_id; nal_unit_type, nuh_temporal_id_plus1
 unfoldable pub header_of : List ℕ → VvcNalHeader
@@ -19,9 +18,9 @@ header_of u =
       nuh_temporal_id_plus1 = get_or u 1 0 % 8;
     }
 
-abbrev pub outcome_h : HeaderRead → Outcome VvcNalHeader
-outcome_h (Header h) = value h 16
-outcome_h (Refused e) = refused (number e)
+abbrev pub outcome_h : Result VvcNalHeader Refusal → Outcome VvcNalHeader
+outcome_h (Ok h) = value h 16
+outcome_h (Err e) = refused (number e)
 
 -- 4: over 65,536 bytes; 1: under two. The header ends at bit 16
 unfoldable pub parse_nal_header : List ℕ → Outcome VvcNalHeader

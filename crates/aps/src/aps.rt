@@ -1,21 +1,20 @@
 // adaptation_parameter_set_rbsp(), H.266 7.3.2.6. After src/h266/aps.rs.
 ghost use Rattle.std.specs.Prelude.{◌≡◌};
-ghost use Rattle.aps.specs.Inner.{Names, Opens, assembled};
+ghost use Rattle.bitstream.specs.Outcome.{map_outcome};
+ghost use Rattle.aps.specs.Inner.{Names, Opens};
 ghost use Rattle.aps.specs.Rbsp.{parse_aps_rbsp};
-ghost use Rattle.aps.specs.ApsSyntax.{empty_set, number_of, zero_alf, zero_lmcs, zero_scaling};
-ghost use Rattle.aps.specs.Reading.{outcome_read, outcome_aps, set_given, head_of};
+ghost use Rattle.aps.specs.ApsSyntax.{empty_set, number_of};
+ghost use Rattle.aps.specs.Reading.{outcome_reading, head_of};
 
 use crate::alf::{VvcAlfData, zero_alf};
-use crate::alf_set::{AlfReading, alf_alone, alf_head};
 use crate::lmcs::{VvcLmcsData, zero_lmcs};
-use crate::lmcs_set::{LmcsReading, lmcs_alone, lmcs_head};
+use crate::payload::{Payload, pass_payload};
 use crate::reader::Reader;
 use crate::scaling_list::{VvcScalingListData, zero_scaling};
-use crate::scaling_set::{ScalingReading, scaling_alone, scaling_head};
 use bitstream::{LONGEST_INPUT, Refusal};
 
 // aps_params_type.
-#[derive(Clone, Copy)]
+#[derive(Clone, Copy, Debug, PartialEq, Eq)]
 pub enum ApsKind {
     Alf,
     Lmcs,
@@ -79,18 +78,11 @@ pub struct VvcAps {
     pub scaling: VvcScalingListData,
 }
 
-// The bit where reading ended, or why there is no set.
+// What reading gives: the value, and the bit where reading ended.
 #[derive(Clone, Copy)]
-pub enum ApsOutcome {
-    Read(usize),
-    Refused(Refusal),
-}
-
-// What reading gives; a refusal's set is the empty set.
-#[derive(Clone, Copy)]
-pub struct ApsReading {
-    pub outcome: ApsOutcome,
-    pub set: VvcAps,
+pub struct Reading<T> {
+    pub value: T,
+    pub end: usize,
 }
 
 // A set without its arrays.
@@ -100,13 +92,6 @@ pub struct ApsHead {
     pub aps_adaptation_parameter_set_id: u8,
     pub aps_chroma_present_flag: bool,
     pub aps_extension_flag: bool,
-}
-
-// A refusal's head is the empty set's.
-#[derive(Clone, Copy)]
-pub struct HeadReading {
-    pub outcome: ApsOutcome,
-    pub head: ApsHead,
 }
 
 // Every field zero, false or the first case.
@@ -124,16 +109,6 @@ pub fn empty_set() -> VvcAps
     }
 }
 
-pub(crate) fn refuse(why: Refusal) -> ApsReading
-    ensures { (result.outcome ≡ ApsOutcome.Refused why) × (result.set ≡ empty_set) }
-{
-    let outcome = ApsOutcome::Refused(why);
-    ApsReading {
-        outcome,
-        set: empty_set(),
-    }
-}
-
 // The empty set's head.
 pub fn empty_head() -> ApsHead
     ensures { result ≡ head_of empty_set }
@@ -145,15 +120,6 @@ pub fn empty_head() -> ApsHead
         aps_adaptation_parameter_set_id: id,
         aps_chroma_present_flag: false,
         aps_extension_flag: extension,
-    }
-}
-
-pub(crate) fn refuse_head(why: Refusal) -> HeadReading
-    ensures { (result.outcome ≡ ApsOutcome.Refused why) × (result.head ≡ head_of empty_set) }
-{
-    HeadReading {
-        outcome: ApsOutcome::Refused(why),
-        head: empty_head(),
     }
 }
 
@@ -195,96 +161,35 @@ pub(crate) fn open_rbsp(bytes: &[u8]) -> Result<(Reader<'_>, ApsHead), Refusal>
     Ok((reader, head))
 }
 
-// The set of a kind, with the other arrays 0.
-fn with_alf(reading: AlfReading) -> ApsReading
-    ensures { (result.outcome ≡ reading.outcome) × (result.set ≡ assembled reading.head reading.alf zero_lmcs zero_scaling) }
-{
-    let outcome = reading.outcome;
-    let head = reading.head;
-    let kind = head.kind;
-    let alf = reading.alf;
-    ApsReading {
-        outcome,
-        set: VvcAps {
-            kind,
-            aps_adaptation_parameter_set_id: head.aps_adaptation_parameter_set_id,
-            aps_chroma_present_flag: head.aps_chroma_present_flag,
-            aps_extension_flag: head.aps_extension_flag,
-            alf,
-            lmcs: zero_lmcs(),
-            scaling: zero_scaling(),
-        },
-    }
-}
-
-fn with_lmcs(reading: LmcsReading) -> ApsReading
-    ensures { (result.outcome ≡ reading.outcome) × (result.set ≡ assembled reading.head zero_alf reading.lmcs zero_scaling) }
-{
-    let outcome = reading.outcome;
-    let head = reading.head;
-    let kind = head.kind;
-    let lmcs = reading.lmcs;
-    ApsReading {
-        outcome,
-        set: VvcAps {
-            kind,
-            aps_adaptation_parameter_set_id: head.aps_adaptation_parameter_set_id,
-            aps_chroma_present_flag: head.aps_chroma_present_flag,
-            aps_extension_flag: head.aps_extension_flag,
-            alf: zero_alf(),
-            lmcs,
-            scaling: zero_scaling(),
-        },
-    }
-}
-
-fn with_scaling(reading: ScalingReading) -> ApsReading
-    ensures { (result.outcome ≡ reading.outcome) × (result.set ≡ assembled reading.head zero_alf zero_lmcs reading.scaling) }
-{
-    let outcome = reading.outcome;
-    let head = reading.head;
-    let kind = head.kind;
-    let scaling = reading.scaling;
-    ApsReading {
-        outcome,
-        set: VvcAps {
-            kind,
-            aps_adaptation_parameter_set_id: head.aps_adaptation_parameter_set_id,
-            aps_chroma_present_flag: head.aps_chroma_present_flag,
-            aps_extension_flag: head.aps_extension_flag,
-            alf: zero_alf(),
-            lmcs: zero_lmcs(),
-            scaling,
-        },
-    }
-}
-
 // A set out of its RBSP, escapes removed.
-pub fn parse_aps_rbsp(bytes: &[u8]) -> ApsReading
-    ensures answer { outcome_aps result ≡ parse_aps_rbsp bytes.now }
-    ensures set { result.set ≡ set_given (parse_aps_rbsp bytes.now) }
+pub fn parse_aps_rbsp(bytes: &[u8]) -> Result<Reading<VvcAps>, Refusal>
+    ensures { outcome_reading result ≡ parse_aps_rbsp bytes.now }
 {
-    match open_rbsp(bytes) {
-        Ok((reader, head)) => match head.kind {
-            ApsKind::Alf => with_alf(alf_alone(reader, head)),
-            ApsKind::Lmcs => with_lmcs(lmcs_alone(reader, head)),
-            ApsKind::Scaling => with_scaling(scaling_alone(reader, head)),
-        },
-        Err(why) => refuse(why),
+    let (mut reader, mut head) = open_rbsp(bytes)?;
+    let mut set = empty_set();
+    match head.kind {
+        ApsKind::Alf => VvcAlfData::read(&mut reader, &mut head, &mut set.alf)?,
+        ApsKind::Lmcs => VvcLmcsData::read(&mut reader, &mut head, &mut set.lmcs)?,
+        ApsKind::Scaling => VvcScalingListData::read(&mut reader, &mut head, &mut set.scaling)?,
     }
+    set.kind = head.kind;
+    set.aps_adaptation_parameter_set_id = head.aps_adaptation_parameter_set_id;
+    set.aps_chroma_present_flag = head.aps_chroma_present_flag;
+    set.aps_extension_flag = head.aps_extension_flag;
+    Ok(Reading {
+        value: set,
+        end: reader.at(),
+    })
 }
 
 // Of a set out of its RBSP the end, kind, id and flags, and no array.
-pub fn parse_aps_head(bytes: &[u8]) -> HeadReading
-    ensures answer { outcome_read result.outcome (set_given (parse_aps_rbsp bytes.now)) ≡ parse_aps_rbsp bytes.now }
-    ensures head { result.head ≡ head_of (set_given (parse_aps_rbsp bytes.now)) }
+pub fn parse_aps_head(bytes: &[u8]) -> Result<Reading<ApsHead>, Refusal>
+    ensures { outcome_reading result ≡ map_outcome head_of (parse_aps_rbsp bytes.now) }
 {
-    match open_rbsp(bytes) {
-        Ok((reader, head)) => match head.kind {
-            ApsKind::Alf => alf_head(reader, head),
-            ApsKind::Lmcs => lmcs_head(reader, head),
-            ApsKind::Scaling => scaling_head(reader, head),
-        },
-        Err(why) => refuse_head(why),
-    }
+    let (mut reader, mut head) = open_rbsp(bytes)?;
+    pass_payload(&mut reader, &mut head)?;
+    Ok(Reading {
+        value: head,
+        end: reader.at(),
+    })
 }

@@ -15,6 +15,7 @@ pub mod lmcs;
 pub mod lmcs_set;
 mod lmcs_write;
 pub mod nal_header;
+pub mod payload;
 mod reader;
 pub mod scaling_list;
 mod scaling_list_data;

@@ -9,7 +9,7 @@ pub const NAL_TYPE_PREFIX_APS: u8 = 17;
 
 pub const NAL_TYPE_SUFFIX_APS: u8 = 18;
 
-#[derive(Clone, Copy)]
+#[derive(Clone, Copy, Debug, PartialEq, Eq)]
 pub struct VvcNalHeader {
     pub forbidden_zero_bit: u8,
     pub nuh_reserved_zero_bit: u8,
@@ -18,25 +18,19 @@ pub struct VvcNalHeader {
     pub nuh_temporal_id_plus1: u8,
 }
 
-#[derive(Clone, Copy)]
-pub enum HeaderRead {
-    Header(VvcNalHeader),
-    Refused(Refusal),
-}
-
 // The two bytes at the start of a unit; nothing in them is judged.
-pub fn parse_nal_header(unit: &[u8]) -> HeaderRead
+pub fn parse_nal_header(unit: &[u8]) -> Result<VvcNalHeader, Refusal>
     ensures { outcome_h result ≡ parse_nal_header unit.now }
 {
     if LONGEST_INPUT < unit.len() {
-        return HeaderRead::Refused(Refusal::InputTooLong);
+        return Err(Refusal::InputTooLong);
     }
     if unit.len() < 2 {
-        return HeaderRead::Refused(Refusal::UnexpectedEnd);
+        return Err(Refusal::UnexpectedEnd);
     }
     let first = unit[0];
     let second = unit[1];
-    HeaderRead::Header(VvcNalHeader {
+    Ok(VvcNalHeader {
         forbidden_zero_bit: first / 128,
         nuh_reserved_zero_bit: first / 64 % 2,
         nuh_layer_id: first % 64,

@@ -10,86 +10,25 @@ ghost use Rattle.aps.specs.Writes.{Wrote, closed};
 ghost use Rattle.aps.specs.Writing.{bytes_due, alf_set, lmcs_set, scaling_set, write_aps, write_nal, write_aps_nal};
 
 use crate::alf::VvcAlfData;
-use crate::alf_write::write_alf_data;
-use crate::aps::{Alf, ApsKind, Lmcs, Scaling, VvcAps};
+use crate::aps::{ApsKind, VvcAps};
 use crate::lmcs::VvcLmcsData;
-use crate::lmcs_write::write_lmcs_data;
+use crate::payload::Payload;
 use crate::scaling_list::VvcScalingListData;
-use crate::scaling_list_write::write_scaling_list_data;
 use crate::unit::is_aps;
 use crate::writer::Writer;
 use bitstream::nal::rbsp_to_ebsp;
 use bitstream::{LONGEST_INPUT, Refusal};
 
-// A payload: its kind's number, and its fields; an id that the kind does not have is refused before a bit of the payload is written.
-trait Payload {
-    ghost NUMBER: { ℕ };
-
-    ghost sent: { Bool → Self → Syntax.Payload };
-
-    const NUMBER: u8;
-
-    fn write(&self, writer: &mut Writer, id: u8, chroma: bool) -> Result<(), Refusal>
-        requires { writer.old.at ≤ 100 }
-        ensures wrote { Wrote (payload NUMBER id chroma) (sent chroma self.now) writer.old writer.new result }
-        ensures within { writer.new.at ≤ writer.old.at + 31248 };
-}
-
-impl Payload for VvcAlfData {
-    ghost NUMBER = { 0 };
-
-    ghost sent = { λ chroma d. of_alf d };
-
-    const NUMBER: u8 = Alf::NUMBER;
-
-    fn write(&self, writer: &mut Writer, id: u8, chroma: bool) -> Result<(), Refusal> {
-        if Alf::MAX_ID < id {
-            return Err(Refusal::InvalidData);
-        }
-        write_alf_data(writer, chroma, self)
-    }
-}
-
-impl Payload for VvcLmcsData {
-    ghost NUMBER = { 1 };
-
-    ghost sent = { λ chroma d. of_lmcs d };
-
-    const NUMBER: u8 = Lmcs::NUMBER;
-
-    fn write(&self, writer: &mut Writer, id: u8, chroma: bool) -> Result<(), Refusal> {
-        if Lmcs::MAX_ID < id {
-            return Err(Refusal::InvalidData);
-        }
-        write_lmcs_data(writer, chroma, self)
-    }
-}
-
-impl Payload for VvcScalingListData {
-    ghost NUMBER = { 2 };
-
-    ghost sent = { λ chroma d. of_scaling (look chroma d) };
-
-    const NUMBER: u8 = Scaling::NUMBER;
-
-    fn write(&self, writer: &mut Writer, id: u8, chroma: bool) -> Result<(), Refusal> {
-        if Scaling::MAX_ID < id {
-            return Err(Refusal::InvalidData);
-        }
-        write_scaling_list_data(writer, chroma, self)
-    }
-}
-
 // A set up to its extension flag, which is 0: what stands before the payload, the payload and the flag.
-fn put_set<P: Payload>(writer: &mut Writer, id: u8, chroma: bool, data: &P) -> Result<(), Refusal>
+fn put_set<P: Payload>(writer: &mut Writer, id: u8, chroma: bool, d: &P) -> Result<(), Refusal>
     requires { writer.old.at ≡ 0 }
-    ensures wrote { (a : VvcAps) → from_aps a ≡ (P.NUMBER, (id, (chroma, (P.sent chroma data.now, false)))) → Wrote aps a writer.old writer.new result }
+    ensures wrote { (a : VvcAps) → from_aps a ≡ (P.NUMBER, (id, (chroma, (P.sent chroma d.now, false)))) → Wrote aps a writer.old writer.new result }
     ensures within { writer.new.at ≤ 31258 }
 {
     writer.u(u32::from(P::NUMBER), 3)?;
     writer.u(u32::from(id), 5)?;
     writer.flag(chroma)?;
-    data.write(writer, id, chroma)?;
+    d.write(writer, id, chroma)?;
     writer.flag(false)
 }
 
@@ -99,16 +38,16 @@ fn put_rbsp<P: Payload>(
     id: u8,
     chroma: bool,
     extension: bool,
-    data: &P,
+    d: &P,
 ) -> Result<(), Refusal>
     requires { (writer.old.at ≡ 0) × (writer.old.buffer ≡ replicate 4096 0) }
-    ensures due { (a : VvcAps) → from_aps a ≡ (P.NUMBER, (id, (chroma, (P.sent chroma data.now, extension)))) → closed result writer.new ≡ bytes_due a }
+    ensures due { (a : VvcAps) → from_aps a ≡ (P.NUMBER, (id, (chroma, (P.sent chroma d.now, extension)))) → closed result writer.new ≡ bytes_due a }
     ensures within { writer.new.at ≤ 32768 }
 {
     if extension {
         return Err(Refusal::Unsupported);
     }
-    put_set(writer, id, chroma, data)?;
+    put_set(writer, id, chroma, d)?;
     writer.trailing_bits()
 }
 
@@ -188,14 +127,14 @@ fn write_one<P: Payload>(
     id: u8,
     chroma: bool,
     extension: bool,
-    data: &P,
+    d: &P,
     out: &mut [u8],
 ) -> Result<usize, Refusal>
-    ensures answer { (a : VvcAps) → from_aps a ≡ (P.NUMBER, (id, (chroma, (P.sent chroma data.now, extension)))) → outcome_written result out.new ≡ write_aps a out.old }
-    ensures bytes { (a : VvcAps) → from_aps a ≡ (P.NUMBER, (id, (chroma, (P.sent chroma data.now, extension)))) → out.new ≡ left out.old (write_aps a out.old) }
+    ensures answer { (a : VvcAps) → from_aps a ≡ (P.NUMBER, (id, (chroma, (P.sent chroma d.now, extension)))) → outcome_written result out.new ≡ write_aps a out.old }
+    ensures bytes { (a : VvcAps) → from_aps a ≡ (P.NUMBER, (id, (chroma, (P.sent chroma d.now, extension)))) → out.new ≡ left out.old (write_aps a out.old) }
 {
     let mut writer = Writer::new();
-    put_rbsp(&mut writer, id, chroma, extension, data)?;
+    put_rbsp(&mut writer, id, chroma, extension, d)?;
     copy_out(writer.bytes(), out)
 }
 

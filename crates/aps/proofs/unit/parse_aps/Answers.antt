@@ -1,34 +1,29 @@
--- `parse_aps`: the set of the RBSP in the work buffer.
-use Rattle.bitstream.specs.declared.Refusal.{Refusal}
-use Rattle.std.specs.Prelude.{ℕ, Result, Ok}
-use mathlib.Core.Path.{sym, subst}
+-- `parse_aps`: what the RBSP in the work buffer is read as.
+use Rattle.std.proofs.Common.{rules, ◌≡◌, Ok, Err}
+use mathlib.Core.Path.{sym, ap, ◌∙◌}
 use lib.ListN.{length}
 use lib.Seq.{length-take-le}
+use Rattle.bitstream.specs.Outcome.{map_outcome}
 use Rattle.aps.specs.Inner.{Unwrapped}
+use Rattle.aps.specs.Reading.{head_of}
 use Rattle.aps.specs.Unit.{parse_aps}
-use Rattle.aps.proofs.Answers.{same_answer, refused-answer}
 use Rattle.aps.proofs.unit.parse_aps.Goals as goal
-use Rattle.aps.proofs.unit.parse_aps.Goals.{In-Ok}
+use Rattle.aps.proofs.unit.parse_aps.Goals.{In_ok-n}
 
 -- the RBSP in the work buffer
-rbsp : (c : In-Ok) → Unwrapped (Ok c.in-Ok.n) (parse_aps c.args.unit.now (length c.args.work.now)) c.rbsp_to_work.new.work
-rbsp c =
-    let k = c.rbsp_to_work in
-    subst (λ (z : Result ℕ Refusal). Unwrapped z (parse_aps c.args.unit.now (length c.args.work.now)) k.new.work) c.in-Ok.is k.ensures.answer
+rbsp : (c : In_ok-n) → Unwrapped (Ok c.in_ok-n.n) (parse_aps c.args.unit.now (length c.args.work.now)) c.rbsp_to_work.new.work
+rbsp c = c.in_ok-n.ensures.answer
+
+pub returns-in_err-n : goal.returns-in_err-n
+returns-in_err-n c =
+    let e : c.from_residual.result ≡ Err c.in_err-n.field-0.0 = search rules in
+    rw e (record { answer = sym c.in_err-n.ensures.answer; work = c.rbsp_to_work.ensures.work })
 
 pub slice_bounds-parse_aps_rbsp-end : goal.slice_bounds-parse_aps_rbsp-end
 slice_bounds-parse_aps_rbsp-end c = (rbsp c).0
 
-pub slice_bounds-parse_aps_rbsp-end-in-Ok : goal.slice_bounds-parse_aps_rbsp-end-in-Ok
-slice_bounds-parse_aps_rbsp-end-in-Ok c = sym (length-take-le _ _ (rbsp c).0)
+pub slice_bounds-parse_aps_rbsp-end-2 : goal.slice_bounds-parse_aps_rbsp-end-2
+slice_bounds-parse_aps_rbsp-end-2 c = sym (length-take-le _ _ (rbsp c).0)
 
-pub returns-in-Ok : goal.returns-in-Ok
-returns-in-Ok c =
-    let r = same_answer c.parse_aps_rbsp.result (c.parse_aps_rbsp.ensures.answer, c.parse_aps_rbsp.ensures.set) (rbsp (goal.at.returns-in-Ok c).In-Ok).1 in
-    record { answer = r.0; set = r.1; work = c.rbsp_to_work.ensures.work }
-
-pub returns-in-Err : goal.returns-in-Err
-returns-in-Err c =
-    let k = c.rbsp_to_work in
-    let r = refused-answer c.refuse.result _ c.refuse.ensures (subst (λ (z : Result ℕ Refusal). Unwrapped z (parse_aps c.args.unit.now (length c.args.work.now)) k.new.work) c.in-Err.is k.ensures.answer) in
-    record { answer = r.0; set = r.1; work = k.ensures.work }
+pub returns : goal.returns
+returns c = record { answer = c.parse_aps_rbsp.ensures ∙ sym (rbsp (goal.at.returns c).In_ok-n).1; work = c.rbsp_to_work.ensures.work }

@@ -1,7 +1,7 @@
 -- `write`: an id above 7 is not taken.
 use Rattle.aps.proofs.WriterLaws.{wrote-not}
 use Rattle.aps.proofs.RbspWrites.{scaling-id-wide, scaling-payload}
-use Rattle.aps.proofs.write.VvcScalingListDataPayload.write.Goals as goal
+use Rattle.aps.proofs.scaling_set.VvcScalingListDataPayload.write.Goals as goal
 
 pub returns-then-id-gt-MAX_ID-clause-wrote : goal.returns-then-id-gt-MAX_ID-clause-wrote
 returns-then-id-gt-MAX_ID-clause-wrote c = wrote-not (scaling-id-wide c.args.id c.args.chroma _ c.if-id-gt-MAX_ID.true)
