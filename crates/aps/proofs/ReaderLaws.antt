@@ -49,6 +49,10 @@ module _ {A : Type 0} {c : Codec A} {w0 w1 : Reader} where
   pub fills-exit : {T : Type 0} (r : Result T Refusal) (e : Refusal) (a : A) (q : ℕ) → IsErrAnd r (λ y. y ≡ e) → Reads c (refused (number e)) w0 w1 → Reads c (filled r a q) w0 w1
   fills-exit r e a q h k = record { field = filled-exit r e a q h k.field; bytes = k.bytes }
 
+  -- a refusal leaves the reader where it was
+  pub reads-kept : {n : ℕ} → Reads c (refused n) w0 w1 → Reads c (refused n) w0 w0
+  reads-kept r = record { field = r.field; bytes = refl }
+
   -- a reader at the same place
   pub reads-from : {o : Outcome A} {w2 : Reader} → Stands w0 w1 → Reads c o w1 w2 → Reads c o w0 w2
   reads-from h r = record { field = rw (h.bytes, h.place) at r.field; bytes = r.bytes ∙ h.bytes }

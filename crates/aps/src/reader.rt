@@ -8,8 +8,8 @@ use bitstream::bit_reader::{BitReader, FieldU, Trailing};
 use bitstream::short_codes::code_by_table;
 use bitstream::window::window;
 
-// The `left` highest of `bits` are the bits from bit `at` on, zeros past the end.
-#[derive(Drop)]
+// The `left` highest of `bits` are the bits from bit `at` on, zeros past the end. A loop works on a copy of its own: together with the hints on inlining that keeps it in registers.
+#[derive(Clone, Copy)]
 pub(crate) struct Reader<'a> {
     bytes: &'a [u8],
     at: usize,
@@ -49,6 +49,7 @@ impl<'a> Reader<'a> {
     }
 
     // The same place with `need` bits or more.
+    #[inline(always)]
     fn fill(&mut self, need: u64)
         requires { need ≤ 57 }
         ensures { Stands self.old self.new × (need ≤ self.new.left) }
@@ -60,6 +61,7 @@ impl<'a> Reader<'a> {
     }
 
     // Whether n bits pass the input's end.
+    #[inline(always)]
     fn lacks(&self, n: u64) -> bool
         requires { n ≤ 64 }
         ensures { result ≡ ltb (length self.now.bytes.now * 8) (self.now.at + n) }
@@ -68,6 +70,7 @@ impl<'a> Reader<'a> {
     }
 
     // n bits on; `most` are counted off, so that the word is filled again after as many fields whatever their bits are.
+    #[inline(always)]
     fn pass(&mut self, n: u64, most: u64)
         requires { (n ≤ most) × (most ≤ self.old.left) × (most ≤ 57) × (self.old.at + n ≤ length self.old.bytes.now * 8) }
         ensures { (self.new.bytes.now ≡ self.old.bytes.now) × (self.new.at ≡ self.old.at + n) }
@@ -78,6 +81,7 @@ impl<'a> Reader<'a> {
     }
 
     // u(n), 1 <= n <= 32.
+    #[inline(always)]
     pub(crate) fn u(&mut self, n: u32, most: u64) -> Result<u32, Refusal>
         requires { (1 ≤ n) × (n ≤ most) × (most ≤ 32) }
         ensures { Reads (u n) (given result self.new.at) self.old self.new }
@@ -93,6 +97,7 @@ impl<'a> Reader<'a> {
     }
 
     // u(1) as a flag.
+    #[inline(always)]
     pub(crate) fn flag(&mut self) -> Result<bool, Refusal>
         ensures { Reads flag (given result self.new.at) self.old self.new }
     {
@@ -101,6 +106,7 @@ impl<'a> Reader<'a> {
     }
 
     // The same where it is sent, else false.
+    #[inline(always)]
     pub(crate) fn flag_if(&mut self, sent: bool) -> Result<bool, Refusal>
         ensures { Reads (when sent no_flag flag) (given result self.new.at) self.old self.new }
     {
@@ -108,6 +114,7 @@ impl<'a> Reader<'a> {
     }
 
     // A magnitude u(n), and its sign if it is not 0.
+    #[inline(always)]
     pub(crate) fn signed(&mut self, n: u32) -> Result<(u32, bool), Refusal>
         requires { (1 ≤ n) × (n ≤ 16) }
         ensures { Reads (signed (u n)) (given result self.new.at) self.old self.new }
@@ -125,6 +132,7 @@ impl<'a> Reader<'a> {
     }
 
     // ue(v), of any length.
+    #[inline(always)]
     pub(crate) fn ue(&mut self) -> Result<u32, Refusal>
         ensures { Reads ue (given result self.new.at) self.old self.new }
     {
@@ -143,6 +151,7 @@ impl<'a> Reader<'a> {
     }
 
     // ue(v), looked for in the table first.
+    #[inline(always)]
     pub(crate) fn ue_by(&mut self, codes: &[u16; 512]) -> Result<u32, Refusal>
         requires { ShortCodes codes.now }
         ensures { Reads ue (given result self.new.at) self.old self.new }
@@ -160,6 +169,7 @@ impl<'a> Reader<'a> {
     }
 
     // ue(v) in 0..most.
+    #[inline(always)]
     pub(crate) fn ue_to(&mut self, codes: &[u16; 512], most: u32) -> Result<u32, Refusal>
         requires { ShortCodes codes.now }
         ensures { Reads (ue_to most) (given result self.new.at) self.old self.new }
@@ -172,6 +182,7 @@ impl<'a> Reader<'a> {
     }
 
     // se(v) in -128..127.
+    #[inline(always)]
     pub(crate) fn se8(&mut self, codes: &[u16; 512]) -> Result<i32, Refusal>
         requires { ShortCodes codes.now }
         ensures { Reads (se_in (negsuc 127) (pos 127)) (given result self.new.at) self.old self.new }
@@ -199,6 +210,7 @@ impl<'a> Reader<'a> {
     }
 
     // A magnitude in 0..128, and its sign if it is not 0: at most 17 bits and the sign, which is sent unless the first bit is 1.
+    #[inline(always)]
     pub(crate) fn coefficient(&mut self, codes: &[u16; 512]) -> Result<(u32, bool), Refusal>
         requires { ShortCodes codes.now }
         ensures { Reads coefficient (given result self.new.at) self.old self.new }
@@ -221,6 +233,7 @@ impl<'a> Reader<'a> {
     }
 
     // One that the word does not hold, or that is refused.
+    #[inline(always)]
     fn long_coefficient(&mut self, codes: &[u16; 512]) -> Result<(u32, bool), Refusal>
         requires { ShortCodes codes.now }
         ensures { Reads coefficient (given result self.new.at) self.old self.new }

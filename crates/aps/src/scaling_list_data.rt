@@ -14,6 +14,7 @@ use bitstream::Refusal;
 use bitstream::short_codes::short_codes;
 
 // The sum at position i, after prev.
+#[inline(always)]
 fn read_step(
     reader: &mut Reader,
     codes: &[u16; 512],
@@ -42,11 +43,13 @@ fn read_sums(
     requires { (length list.old ≡ entries id) × (nat_abs dc ≤ 128) × ShortCodes codes.now }
     ensures { Reads (sums id 0 (entries id) dc) (filled result list.new reader.new.at) reader.old reader.new }
 {
+    let mut held = *reader;
     let mut sum = dc;
     for i in 0..list.len() {
-        sum = read_step(reader, codes, id, i, sum)?;
+        sum = read_step(&mut held, codes, id, i, sum)?;
         list[i] = sum;
     }
+    *reader = held;
     Ok(())
 }
 
