@@ -23,7 +23,6 @@ pub mod TableSteps
 pub mod Steps
 pub mod ReaderLaws
 pub mod SeRange
-pub mod StopLaws
 pub mod CoefficientSteps
 pub mod AlfSteps
 pub mod ClipSteps
@@ -33,10 +32,9 @@ pub mod ScalingKeep
 pub mod ScalingSteps
 pub mod RbspSteps
 pub mod UnitSteps
-pub mod WriteSteps
-pub mod SentWrites
-pub mod PutLaws
-pub mod ArrayWrites
+pub mod WriterLaws
+pub mod FieldWrites
+pub mod EntryWrites
 pub mod AlfFilters
 pub mod AlfWrites
 pub mod LmcsWrites

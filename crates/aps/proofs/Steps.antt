@@ -35,10 +35,6 @@ module _ {A : Type 0} where
   unfolding when
   when-read b d c s p = refl
 
-  pub when-ok : (b : Bool) (d : Inferred A) (c : Codec A) (a : A) → (when b d c).ok a ≡ cond b (c.ok a) (d.is a)
-  unfolding when
-  when-ok b d c a = refl
-
   ◌then◌-value : (x : Outcome (List A)) → x ≡ ◌then◌ x (λ ys r. value ys r)
   ◌then◌-value (value a q) = refl
   ◌then◌-value (refused n) = refl

@@ -1,25 +1,23 @@
 -- A ue at the start of a window, by the table of short codes.
 use Prim.Native.Nat.{ℕ, ◌+◌, ◌*◌, ◌≤◌, ◌<◌}
-use mathlib.Core.Path.{◌≡◌, ◌∙◌}
+use Rattle.std.specs.Prelude.{Some}
+use mathlib.Core.Path.{◌≡◌}
 use mathlib.Core.List.{List}
 use native.Mathlib.Omega.{arith}
 use lib.ListN.{length}
 use Rattle.bitstream.specs.Outcome.{value}
-use Rattle.bitstream.specs.Windows.{IsWindow, code_in, ShortCodes, code_by}
-use Rattle.bitstream.proofs.WindowLaws.{Found, code-found, code-most, table-code}
+use Rattle.bitstream.specs.Windows.{IsWindow, code_in}
+use Rattle.bitstream.proofs.WindowLaws.{Found, code-found, code-most, code-small}
 use Rattle.aps.specs.Codec.{ue}
 use Rattle.aps.proofs.WindowSteps.{found-ue}
 
-module _ {codes : List ℕ} (t : ShortCodes codes) {s : List ℕ} {p left w : ℕ} (h : IsWindow s p left w) {c : ℕ × ℕ} (e : c ≡ code_by codes w) where
-  is_code : c ≡ code_in w
-  is_code = e ∙ table-code t w h.fits
+module _ {s : List ℕ} {p left w : ℕ} (h : IsWindow s p left w) {v k : ℕ} (e : Some (v, k) ≡ code_in w) where
+  pub table-bits : k ≤ 17
+  table-bits = code-most w e
 
-  pub table-bits : c.1 ≤ 17
-  table-bits = code-most w c is_code
-
-  pub table-found : 0 < c.1 → Found w c.0 c.1
-  table-found = code-found w c is_code
+  pub table-found : Found w v k
+  table-found = code-found w e
 
   -- one that ends inside the input
-  pub table-ue : 0 < c.1 → 17 ≤ left → p + c.1 ≤ length s * 8 → ue.read s p ≡ value c.0 (p + c.1)
-  table-ue a l i = found-ue h c is_code a (omega (arith, table-bits)) i
+  pub table-ue : 17 ≤ left → p + k ≤ length s * 8 → ue.read s p ≡ value v (p + k)
+  table-ue l i = found-ue h e (omega (arith, table-bits)) i

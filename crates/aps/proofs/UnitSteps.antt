@@ -1,4 +1,6 @@
 -- The steps of a unit, as its reader takes them: what its header allows, and its RBSP in the work buffer.
+use Rattle.bitstream.specs.declared.Refusal.{Refusal}
+use Rattle.std.specs.Prelude.{Result, Ok, Err}
 use mathlib.Core.Path.{◌≡◌, refl, sym, ap, ◌∙◌}
 use mathlib.Core.Bool.{Bool, true, false, cond}
 use mathlib.Core.List.{List, ◌++◌}
@@ -8,9 +10,8 @@ use borrow.Author.Tests.{ltb-false, le-ltb}
 use lib.Dec.{ltb}
 use lib.ListN.{length, take, drop, get_or, length-drop, length-append}
 use lib.Seq.{take-append_seam, take_all}
-use Rattle.bitstream.specs.Outcome.{value, refused}
-use Rattle.bitstream.specs.Escapes.{outcome_size, put_bytes, ebsp_to_rbsp}
-use Rattle.bitstream.specs.declared.nal.Size.{Size}
+use Rattle.bitstream.specs.Outcome.{value, refused, outcome_written}
+use Rattle.bitstream.specs.Escapes.{put_bytes, ebsp_to_rbsp}
 use Rattle.bitstream.proofs.CodeLaws.{value-refused}
 use Rattle.bitstream.proofs.EscapeLaws.{unescape-most}
 use Rattle.aps.specs.Rbsp.{read_rbsp, parse_aps_rbsp}
@@ -73,14 +74,14 @@ unfolding parse_aps work_after
 unit-refused u w n e = (rw e, rw e)
 
 -- the RBSP of a unit that passes its header, as unescaping answers it
-pub unwrapped : (u w v : List ℕ) (r : Size) → admitted u (length w) ≡ value tt 16 → outcome_size r v ≡ ebsp_to_rbsp (take (length u - 2) (drop 2 u)) w
+pub unwrapped : (u w v : List ℕ) (r : Result ℕ Refusal) → admitted u (length w) ≡ value tt 16 → outcome_written r v ≡ ebsp_to_rbsp (take (length u - 2) (drop 2 u)) w
     → Unwrapped r (parse_aps u (length w)) v × (v ≡ work_after u w)
-unwrapped u w v (Size.Bytes n) e f =
+unwrapped u w v (Ok n) e f =
     let (h, l, m) = admitted-lengths u (length w) e in
     let (a, b) = unit-read u w e in
     let k : value (rbsp_of u ++ drop (length (rbsp_of u)) w) (length (rbsp_of u)) ≡ value v n = sym (rbsp-put u w l m) ∙ sym f in
     let x : rbsp_of u ++ drop (length (rbsp_of u)) w ≡ v = cc in
     ((rbsp-within u w v n k, a ∙ rbsp-read u w v n l k), sym x ∙ sym b)
-unwrapped u w v (Size.Refused why) e f =
+unwrapped u w v (Err why) e f =
     let (h, l, m) = admitted-lengths u (length w) e in
     absurd (value-refused (sym (rbsp-put u w l m) ∙ sym f))

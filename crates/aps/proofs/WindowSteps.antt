@@ -1,5 +1,6 @@
 -- Fields out of a window: what the syntax reads there.
 use Prim.Native.Nat.{ℕ, zero, suc, ◌+◌, ◌-◌, ◌*◌, ◌/◌, ◌%◌, ◌^◌, ◌≤◌, ◌<◌}
+use Rattle.std.specs.Prelude.{Some}
 use mathlib.Core.Path.{◌≡◌, refl, sym, ◌∙◌}
 use mathlib.Core.Bool.{Bool, true, false, cond, not}
 use mathlib.Core.List.{List}
@@ -23,11 +24,11 @@ use Rattle.aps.proofs.FieldSteps.{u-read, flag-read, signed-read}
 
 module _ {s : List ℕ} {p left w : ℕ} (h : IsWindow s p left w) where
   -- a code that was found in it, and that ends inside the input
-  pub found-ue : (c : ℕ × ℕ) → c ≡ code_in w → 0 < c.1 → c.1 ≤ left → p + c.1 ≤ length s * 8 → ue.read s p ≡ value c.0 (p + c.1)
+  pub found-ue : {v k : ℕ} → Some (v, k) ≡ code_in w → k ≤ left → p + k ≤ length s * 8 → ue.read s p ≡ value v (p + k)
   unfolding ue whole
-  found-ue c e a l i =
-      let k = window-found h c e a l in
-      rw (k.0, k.1, lacks-inside s p c.1 i)
+  found-ue {v} {k} e l i =
+      let f = window-found h e l in
+      rw (f.0, f.1, lacks-inside s p k i)
 
   -- its first n bits
   pub held-lt : (n : ℕ) → n ≤ left → w / 2 ^ (64 - n) < 2 ^ n

@@ -1,17 +1,14 @@
 -- For the proofs' sake: what the inner functions promise each other on the way. No public contract says anything of this file.
-use Rattle.std.specs.Prelude.{◌≡◌, Bool, true, false, cond, not, List, [], ◌∷◌, ℕ, ◌+◌, ◌*◌, ◌/◌, ◌%◌, ◌^◌, ◌≤◌, ◌<◌, Result, Ok, Err, eqb, ltb, length, take}
+use Rattle.std.specs.Prelude.{◌≡◌, Bool, false, cond, not, List, [], ◌∷◌, ℕ, ◌*◌, ◌/◌, ◌%◌, ◌^◌, ◌≤◌, ◌<◌, Result, Ok, Err, eqb, ltb, length, take}
 use Rattle.bitstream.specs.Outcome.{Outcome, value, refused, number, ◌then◌}
-use Rattle.bitstream.specs.Bits.{field_at, put_bits}
+use Rattle.bitstream.specs.Bits.{field_at}
 use Rattle.bitstream.specs.Fields.{lacks, read_trailing}
 use Rattle.bitstream.specs.declared.Refusal.{Refusal}
-use Rattle.bitstream.specs.declared.Refusal.TheVariants.{InvalidData, Unsupported}
-use Rattle.bitstream.specs.declared.nal.Size.{Size}
-use Rattle.aps.specs.Codec.{Codec}
+use Rattle.bitstream.specs.declared.Refusal.TheVariants.{Unsupported}
 use Rattle.aps.specs.Elements.{flag}
 use Rattle.aps.specs.ApsSyntax.{number_of, zero_alf, zero_lmcs, zero_scaling}
 use Rattle.aps.specs.Rbsp.{closed, read_rbsp, parse_aps_rbsp}
 use Rattle.aps.specs.Reading.{outcome_read, set_given, head_of}
-use Rattle.aps.specs.declared.fields.Stop.{Stop}
 use Rattle.aps.specs.declared.alf.VvcAlfLuma.{VvcAlfLuma}
 use Rattle.aps.specs.declared.alf.VvcAlfChroma.{VvcAlfChroma}
 use Rattle.aps.specs.declared.alf.VvcAlfCcFilters.{VvcAlfCcFilters}
@@ -29,27 +26,6 @@ use Rattle.aps.specs.declared.lmcs_set.LmcsReading.{LmcsReading}
 use Rattle.aps.specs.declared.scaling_set.ScalingReading.{ScalingReading}
 use Rattle.aps.specs.declared.aps.VvcAps.{VvcAps}
 use Rattle.aps.specs.declared.unit.Admission.{Admission}
-
--- ---- a run of fields goes on where the one before it ended, and a refusal stays
-
--- the value read up to a stop
-abbrev pub outcome_stop : {A : Type 0} → Stop → A → Outcome A
-outcome_stop (Stop.End q) a = value a q
-outcome_stop (Stop.Refused e) a = refused (number e)
-
--- what is read from where a run ended
-abbrev pub after : {A : Type 0} → Stop → (ℕ → Outcome A) → Outcome A
-after (Stop.End p) f = f p
-after (Stop.Refused e) f = refused (number e)
-
--- a run ended at bit m or before
-abbrev pub StopsBy : Stop → ℕ → Type 0
-StopsBy (Stop.End p) m = p ≤ m
-StopsBy (Stop.Refused e) m = Unit {0}
-
--- from one stop to the next there are at most n bits
-abbrev pub Spans : Stop → Stop → ℕ → Type 0
-Spans from to n = (m : ℕ) → StopsBy from m → StopsBy to (m + n)
 
 -- ---- reading
 
@@ -163,33 +139,10 @@ Names n (Ok kind) = n ≡ number_of kind
 Names n (Err why) = (2 < n) × (why ≡ Unsupported)
 
 -- the RBSP of the unit that o is the answer to stands at the start of the work buffer, or there is none
-abbrev pub Unwrapped : Size → Outcome VvcAps → List ℕ → Type 0
-Unwrapped (Size.Bytes n) o work = (n ≤ length work) × (o ≡ parse_aps_rbsp (take n work))
-Unwrapped (Size.Refused e) o work = o ≡ refused (number e)
+abbrev pub Unwrapped : Result ℕ Refusal → Outcome VvcAps → List ℕ → Type 0
+Unwrapped (Ok n) o work = (n ≤ length work) × (o ≡ parse_aps_rbsp (take n work))
+Unwrapped (Err e) o work = o ≡ refused (number e)
 
 abbrev pub outcome_admission : Admission → Outcome (Unit {0})
 outcome_admission Admission.Aps = value tt 16
 outcome_admission (Admission.Refused e) = refused (number e)
-
--- ---- writing
-
-module _ {A : Type 0} where
-  -- the bits of a put into out from bit p on; 2: a is not taken
-  unfoldable pub writes : Codec A → A → List ℕ → ℕ → Outcome (List ℕ)
-  writes c a out p = cond (c.ok a) (value (put_bits out p (c.emit a)) (p + length (c.emit a))) (refused 2)
-
--- from one stop to the next a was written so, in at most m bits
-pub record Wrote {A : Type 0} (c : Codec A) (a : A) (m : ℕ) (from to : Stop) (out out' : List ℕ) : Type 0 where
-  pub answer : outcome_stop to out' ≡ after from (writes c a out)
-  pub within : Spans from to m
-
--- where nothing is sent: the stop stays if the value is the inferred one
-abbrev pub unsent : Stop → Bool → Stop
-unsent (Stop.End p) true = Stop.End p
-unsent (Stop.End p) false = Stop.Refused InvalidData
-unsent (Stop.Refused e) b = Stop.Refused e
-
--- the bytes of a buffer that an answer says were written
-abbrev pub first_bytes : Size → List ℕ → List ℕ
-first_bytes (Size.Bytes n) l = take n l
-first_bytes (Size.Refused e) l = []

@@ -11,4 +11,5 @@ pub mod ScalingStore
 pub mod Unit
 pub mod Reading
 pub mod Writing
+pub mod Writes
 pub mod Inner

@@ -8,7 +8,7 @@ use crate::alf_chroma::{read_cc, read_chroma};
 use crate::alf_luma::read_luma;
 use crate::reader::Reader;
 use bitstream::Refusal;
-use bitstream::short_codes::short_codes;
+use bitstream::short_codes::CodeTable;
 
 // Luma filters: row r of the flat arrays is at 12 * r. In this order of fields there is no gap to copy.
 #[derive(Clone, Copy)]
@@ -129,7 +129,7 @@ fn read_alf_filters(reader: &mut Reader, d: &mut VvcAlfData) -> Result<(), Refus
     if !is_any(luma, chroma, cb, cr) {
         return Ok(());
     }
-    let codes = short_codes();
+    let codes = CodeTable::new();
     read_luma(reader, &codes, luma, &mut d.luma)?;
     read_chroma(reader, &codes, chroma, &mut d.chroma)?;
     read_cc(reader, &codes, cb, &mut d.cc_cb)?;

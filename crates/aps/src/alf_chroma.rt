@@ -1,6 +1,5 @@
 // The chroma and cross-component filters of alf_data().
 ghost use Rattle.std.specs.Prelude.{◌≡◌, true, false, ◌≤◌, length, replicate};
-ghost use Rattle.bitstream.specs.Windows.{ShortCodes};
 ghost use Rattle.aps.specs.Elements.{zipped};
 ghost use Rattle.aps.specs.AlfSyntax.{chroma, no_chroma, to_chroma, alternative, alternatives, chroma_arrays};
 ghost use Rattle.aps.specs.AlfSyntax.{cc, no_cc, to_cc, cc_coefficients};
@@ -10,17 +9,18 @@ use crate::alf::{VvcAlfCcFilters, VvcAlfChroma};
 use crate::alf_fields::{clips_sent, read_clips, read_coefficients};
 use crate::reader::Reader;
 use bitstream::Refusal;
+use bitstream::short_codes::CodeTable;
 
 // One alternative: its coefficients, and at once its clips. Those that are sent are read alike, whichever it is and however many there are.
 fn read_alternative(
     reader: &mut Reader,
-    codes: &[u16; 512],
+    codes: &CodeTable,
     clip: bool,
     abs: &mut [u32],
     sign: &mut [bool],
     clips: &mut [u8],
 ) -> Result<(), Refusal>
-    requires { (abs.old ≡ replicate 6 0) × (sign.old ≡ replicate 6 false) × (clips.old ≡ replicate 6 0) × ShortCodes codes.now }
+    requires { (abs.old ≡ replicate 6 0) × (sign.old ≡ replicate 6 false) × (clips.old ≡ replicate 6 0) }
     ensures { Reads (alternative clip 0 0) (filled result (zipped abs.new sign.new, clips.new) reader.new.at) reader.old reader.new }
 {
     read_coefficients(reader, codes, 6, abs, sign)?;
@@ -31,15 +31,14 @@ fn read_alternative(
 // The alternatives, one after another: each is a row of the arrays.
 fn read_alternatives(
     reader: &mut Reader,
-    codes: &[u16; 512],
+    codes: &CodeTable,
     clip: bool,
     count_minus1: u32,
     abs: &mut [u32; 48],
     sign: &mut [bool; 48],
     clips: &mut [u8; 48],
 ) -> Result<(), Refusal>
-    requires { (count_minus1 ≤ 7) × (abs.old ≡ replicate 48 0) × (sign.old ≡ replicate 48 false) × (clips.old ≡ replicate 48 0)
-        × ShortCodes codes.now }
+    requires { (count_minus1 ≤ 7) × (abs.old ≡ replicate 48 0) × (sign.old ≡ replicate 48 false) × (clips.old ≡ replicate 48 0) }
     ensures field { Reads (alternatives clip count_minus1) (filled result (zipped abs.new sign.new, clips.new) reader.new.at) reader.old reader.new }
     ensures sizes { (length abs.new ≡ 48) × (length sign.new ≡ 48) }
 {
@@ -60,11 +59,11 @@ fn read_alternatives(
 // The chroma filters, if they are signalled.
 pub(crate) fn read_chroma(
     reader: &mut Reader,
-    codes: &[u16; 512],
+    codes: &CodeTable,
     signal: bool,
     filters: &mut VvcAlfChroma,
 ) -> Result<(), Refusal>
-    requires { (filters.old ≡ to_chroma no_chroma.default) × ShortCodes codes.now }
+    requires { (filters.old ≡ to_chroma no_chroma.default) }
     ensures { Reads (chroma signal) (filled result filters.new reader.new.at) reader.old reader.new }
 {
     if !signal {
@@ -109,11 +108,11 @@ fn read_cc_coefficients(
 // The filters of Cb or Cr, if they are signalled.
 pub(crate) fn read_cc(
     reader: &mut Reader,
-    codes: &[u16; 512],
+    codes: &CodeTable,
     signal: bool,
     filters: &mut VvcAlfCcFilters,
 ) -> Result<(), Refusal>
-    requires { (filters.old ≡ to_cc no_cc.default) × ShortCodes codes.now }
+    requires { (filters.old ≡ to_cc no_cc.default) }
     ensures { Reads (cc signal) (filled result filters.new reader.new.at) reader.old reader.new }
 {
     if !signal {

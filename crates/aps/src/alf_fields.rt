@@ -1,7 +1,6 @@
 // The fields that the filters of alf_data() are made of.
 ghost use Rattle.std.specs.Prelude.{◌≡◌, false, cond, ◌+◌, ◌*◌, ◌%◌, ◌≤◌, ◌<◌, ltb, length, replicate};
 ghost use Rattle.std.proofs.lemmas.List.Edits.{sets};
-ghost use Rattle.bitstream.specs.Windows.{ShortCodes};
 ghost use Rattle.aps.specs.Codec.{u, when, each};
 ghost use Rattle.aps.specs.Elements.{no_number, no_signed, apart};
 ghost use Rattle.aps.specs.AlfSyntax.{ceil_log2, coefficient};
@@ -10,6 +9,7 @@ ghost use Rattle.aps.specs.Inner.{six_of};
 
 use crate::reader::Reader;
 use bitstream::Refusal;
+use bitstream::short_codes::CodeTable;
 
 // Ceil( Log2( x ) ).
 pub(crate) fn ceil_log2(x: u32) -> u32
@@ -24,13 +24,12 @@ pub(crate) fn ceil_log2(x: u32) -> u32
 // The first n coefficients of two arrays of zeros.
 pub(crate) fn read_coefficients(
     reader: &mut Reader,
-    codes: &[u16; 512],
+    codes: &CodeTable,
     n: usize,
     abs: &mut [u32],
     sign: &mut [bool],
 ) -> Result<(), Refusal>
-    requires { (n ≤ length abs.old) × (abs.old ≡ replicate (length abs.old) 0) × (sign.old ≡ replicate (length abs.old) false)
-        × ShortCodes codes.now }
+    requires { (n ≤ length abs.old) × (abs.old ≡ replicate (length abs.old) 0) × (sign.old ≡ replicate (length abs.old) false) }
     ensures { Reads (apart (each (length abs.old) (λ i. when (ltb i n) no_signed coefficient)))
         (filled result (abs.new, sign.new) reader.new.at) reader.old reader.new }
 {

@@ -1,6 +1,5 @@
 // The luma filters of alf_data().
 ghost use Rattle.std.specs.Prelude.{◌≡◌, true, false, ◌≤◌, replicate};
-ghost use Rattle.bitstream.specs.Windows.{ShortCodes};
 ghost use Rattle.aps.specs.AlfSyntax.{luma, luma_indexes, no_luma, to_luma};
 ghost use Rattle.aps.specs.Reads.{Reads, filled};
 
@@ -8,6 +7,7 @@ use crate::alf::VvcAlfLuma;
 use crate::alf_fields::{ceil_log2, clips_sent, read_clips, read_coefficients};
 use crate::reader::Reader;
 use bitstream::Refusal;
+use bitstream::short_codes::CodeTable;
 
 // The 25 indexes, each at most count - 1, if there is more than one filter.
 fn read_indexes(
@@ -37,11 +37,11 @@ fn read_indexes(
 // The luma filters, if they are signalled.
 pub(crate) fn read_luma(
     reader: &mut Reader,
-    codes: &[u16; 512],
+    codes: &CodeTable,
     signal: bool,
     filters: &mut VvcAlfLuma,
 ) -> Result<(), Refusal>
-    requires { (filters.old ≡ to_luma no_luma.default) × ShortCodes codes.now }
+    requires { (filters.old ≡ to_luma no_luma.default) }
     ensures { Reads (luma signal) (filled result filters.new reader.new.at) reader.old reader.new }
 {
     if !signal {

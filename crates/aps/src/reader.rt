@@ -1,14 +1,14 @@
 // The fields of an input of at most 65,536 bytes, one after another.
 ghost use Rattle.std.specs.Prelude.{◌≡◌, false, cond, ◌+◌, ◌*◌, ◌≤◌, ◌<◌, eqb, ltb, nat_abs, length};
 ghost use Rattle.bitstream.specs.Fields.{se_value};
-ghost use Rattle.bitstream.specs.Windows.{IsWindow, ShortCodes};
+ghost use Rattle.bitstream.specs.Windows.{IsWindow};
 
 use bitstream::Refusal;
-use bitstream::bit_reader::{BitReader, FieldU, Trailing};
-use bitstream::short_codes::code_by_table;
+use bitstream::bit_reader::BitReader;
+use bitstream::short_codes::CodeTable;
 use bitstream::window::window;
 
-// The `left` highest of `bits` are the bits from bit `at` on, zeros past the end. A loop works on a copy of its own: together with the hints on inlining that keeps it in registers.
+// The `left` highest of `bits` are the bits from bit `at` on, zeros past the end.
 #[derive(Clone, Copy)]
 pub(crate) struct Reader<'a> {
     bytes: &'a [u8],
@@ -20,13 +20,14 @@ pub(crate) struct Reader<'a> {
     ghost known: { IsWindow bytes.now at left bits },
 }
 
+// What every field passes is inlined into the loops that read, each on a copy of the reader, so that it stays in registers.
 impl<'a> Reader<'a> {
     ghost use Rattle.std.specs.Prelude.{pos, negsuc};
     ghost use Rattle.bitstream.specs.Fields.{read_trailing};
     ghost use Rattle.aps.specs.Codec.{u, ue, when};
     ghost use Rattle.aps.specs.Elements.{flag, no_flag, ue_to, se_in, signed};
     ghost use Rattle.aps.specs.AlfSyntax.{coefficient};
-    ghost use Rattle.aps.specs.Reads.{given, Reads, Stands};
+    ghost use Rattle.aps.specs.Reads.{given, Reads, ReadsOn, Stands};
 
     // From bit `at` on.
     pub(crate) fn new(bytes: &'a [u8], at: usize) -> Self
@@ -106,7 +107,6 @@ impl<'a> Reader<'a> {
     }
 
     // The same where it is sent, else false.
-    #[inline(always)]
     pub(crate) fn flag_if(&mut self, sent: bool) -> Result<bool, Refusal>
         ensures { Reads (when sent no_flag flag) (given result self.new.at) self.old self.new }
     {
@@ -136,32 +136,24 @@ impl<'a> Reader<'a> {
     pub(crate) fn ue(&mut self) -> Result<u32, Refusal>
         ensures { Reads ue (given result self.new.at) self.old self.new }
     {
-        let read = (BitReader { bit_pos: self.at }).ue(self.bytes);
-        if read.lacking {
+        let field = (BitReader { bit_pos: self.at }).ue(self.bytes)?;
+        if field.lacking {
             return Err(Refusal::UnexpectedEnd);
         }
-        match read.field {
-            FieldU::Value(value, next) => {
-                self.at = next.bit_pos;
-                self.left = 0;
-                Ok(value)
-            }
-            FieldU::Refused(why) => Err(why),
-        }
+        self.at = field.next.bit_pos;
+        self.left = 0;
+        Ok(field.value)
     }
 
     // ue(v), looked for in the table first.
     #[inline(always)]
-    pub(crate) fn ue_by(&mut self, codes: &[u16; 512]) -> Result<u32, Refusal>
-        requires { ShortCodes codes.now }
+    pub(crate) fn ue_by(&mut self, codes: &CodeTable) -> Result<u32, Refusal>
         ensures { Reads ue (given result self.new.at) self.old self.new }
     {
         self.fill(17);
-        let code = code_by_table(codes, self.bits);
-        let size = code.bits;
-        if size != 0 {
-            if !self.lacks(size) {
-                self.pass(size, 17);
+        if let Some(code) = codes.code(self.bits) {
+            if !self.lacks(code.bits) {
+                self.pass(code.bits, 17);
                 return Ok(code.value);
             }
         }
@@ -169,9 +161,7 @@ impl<'a> Reader<'a> {
     }
 
     // ue(v) in 0..most.
-    #[inline(always)]
-    pub(crate) fn ue_to(&mut self, codes: &[u16; 512], most: u32) -> Result<u32, Refusal>
-        requires { ShortCodes codes.now }
+    pub(crate) fn ue_to(&mut self, codes: &CodeTable, most: u32) -> Result<u32, Refusal>
         ensures { Reads (ue_to most) (given result self.new.at) self.old self.new }
     {
         let value = self.ue_by(codes)?;
@@ -183,8 +173,7 @@ impl<'a> Reader<'a> {
 
     // se(v) in -128..127.
     #[inline(always)]
-    pub(crate) fn se8(&mut self, codes: &[u16; 512]) -> Result<i32, Refusal>
-        requires { ShortCodes codes.now }
+    pub(crate) fn se8(&mut self, codes: &CodeTable) -> Result<i32, Refusal>
         ensures { Reads (se_in (negsuc 127) (pos 127)) (given result self.new.at) self.old self.new }
     {
         let k = self.ue_by(codes)?;
@@ -199,28 +188,22 @@ impl<'a> Reader<'a> {
         ensures field { given result self.new.at ≡ read_trailing self.old.bytes.now self.old.at }
         ensures bytes { self.new.bytes.now ≡ self.old.bytes.now }
     {
-        match (BitReader { bit_pos: self.at }).read_rbsp_trailing_bits(self.bytes) {
-            Trailing::Aligned(next) => {
-                self.at = next.bit_pos;
-                self.left = 0;
-                Ok(())
-            }
-            Trailing::Refused(why) => Err(why),
-        }
+        let next = (BitReader { bit_pos: self.at }).read_rbsp_trailing_bits(self.bytes)?;
+        self.at = next.bit_pos;
+        self.left = 0;
+        Ok(())
     }
 
     // A magnitude in 0..128, and its sign if it is not 0: at most 17 bits and the sign, which is sent unless the first bit is 1.
     #[inline(always)]
-    pub(crate) fn coefficient(&mut self, codes: &[u16; 512]) -> Result<(u32, bool), Refusal>
-        requires { ShortCodes codes.now }
+    pub(crate) fn coefficient(&mut self, codes: &CodeTable) -> Result<(u32, bool), Refusal>
         ensures { Reads coefficient (given result self.new.at) self.old self.new }
     {
         self.fill(18);
-        let code = code_by_table(codes, self.bits);
-        let size = code.bits;
-        let abs = code.value;
         let sent = 1 - (self.bits >> 63);
-        if size != 0 {
+        if let Some(code) = codes.code(self.bits) {
+            let size = code.bits;
+            let abs = code.value;
             if abs <= 128 {
                 if !self.lacks(size + sent) {
                     let sign = (self.bits >> (63 - size)) % 2 * sent == 1;
@@ -229,21 +212,22 @@ impl<'a> Reader<'a> {
                 }
             }
         }
-        self.long_coefficient(codes)
+        let (field, next) = self.long_coefficient(codes)?;
+        *self = next;
+        Ok(field)
     }
 
-    // One that the word does not hold, or that is refused.
-    #[inline(always)]
-    fn long_coefficient(&mut self, codes: &[u16; 512]) -> Result<(u32, bool), Refusal>
-        requires { ShortCodes codes.now }
-        ensures { Reads coefficient (given result self.new.at) self.old self.new }
+    // One that the word does not hold, or that is refused, and the reader after it.
+    #[inline(never)]
+    fn long_coefficient(mut self, codes: &CodeTable) -> Result<((u32, bool), Self), Refusal>
+        ensures { ReadsOn coefficient result self.entry }
     {
         let abs = self.ue_to(codes, 128)?;
         if abs == 0 {
-            return Ok((abs, false));
+            return Ok(((abs, false), self));
         }
         let sign = self.flag()?;
-        Ok((abs, sign))
+        Ok(((abs, sign), self))
     }
 }
 

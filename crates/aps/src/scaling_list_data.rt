@@ -1,6 +1,5 @@
 // scaling_list_data(), H.266 7.3.2.20, read.
 ghost use Rattle.std.specs.Prelude.{◌≡◌, cond, ◌-◌, ◌≤◌, ◌<◌, ltb, pos, nat_abs, length, set};
-ghost use Rattle.bitstream.specs.Windows.{ShortCodes};
 ghost use Rattle.aps.specs.ApsSyntax.{zero_scaling};
 ghost use Rattle.aps.specs.Reads.{given, filled, Reads};
 ghost use Rattle.aps.specs.ScalingStore.{blank, stored_in, id_in, kept};
@@ -11,18 +10,18 @@ use crate::scaling_list::{
     VvcScalingListData, delta_sent, matrix_entries, max_id_delta, scaling_id_coded, step_skipped,
 };
 use bitstream::Refusal;
-use bitstream::short_codes::short_codes;
+use bitstream::short_codes::CodeTable;
 
 // The sum at position i, after prev.
 #[inline(always)]
 fn read_step(
     reader: &mut Reader,
-    codes: &[u16; 512],
+    codes: &CodeTable,
     id: usize,
     i: usize,
     prev: i32,
 ) -> Result<i32, Refusal>
-    requires { (i < 64) × (nat_abs prev ≤ 9000) × ShortCodes codes.now }
+    requires { (i < 64) × (nat_abs prev ≤ 9000) }
     ensures { Reads (step_at id i prev) (given result reader.new.at) reader.old reader.new }
 {
     if step_skipped(id, i) {
@@ -35,12 +34,12 @@ fn read_step(
 // The sums of id after its DC.
 fn read_sums(
     reader: &mut Reader,
-    codes: &[u16; 512],
+    codes: &CodeTable,
     id: usize,
     dc: i32,
     list: &mut [i32],
 ) -> Result<(), Refusal>
-    requires { (length list.old ≡ entries id) × (nat_abs dc ≤ 128) × ShortCodes codes.now }
+    requires { (length list.old ≡ entries id) × (nat_abs dc ≤ 128) }
     ensures { Reads (sums id 0 (entries id) dc) (filled result list.new reader.new.at) reader.old reader.new }
 {
     let mut held = *reader;
@@ -54,8 +53,7 @@ fn read_sums(
 }
 
 // scaling_list_dc_coef, above id 13.
-fn read_dc(reader: &mut Reader, codes: &[u16; 512], id: usize) -> Result<i32, Refusal>
-    requires { ShortCodes codes.now }
+fn read_dc(reader: &mut Reader, codes: &CodeTable, id: usize) -> Result<i32, Refusal>
     ensures { Reads (dc_at id) (given result reader.new.at) reader.old reader.new }
 {
     if id <= 13 {
@@ -75,13 +73,8 @@ fn store_dc(dc: &mut [i32; 14], id: usize, value: i32)
 }
 
 // scaling_list_pred_id_delta.
-fn read_delta(
-    reader: &mut Reader,
-    codes: &[u16; 512],
-    id: usize,
-    used: bool,
-) -> Result<u32, Refusal>
-    requires { (id < 28) × ShortCodes codes.now }
+fn read_delta(reader: &mut Reader, codes: &CodeTable, id: usize, used: bool) -> Result<u32, Refusal>
+    requires { (id < 28) }
     ensures { Reads (delta_at id used) (given result reader.new.at) reader.old reader.new }
 {
     if !delta_sent(id, used) {
@@ -93,12 +86,12 @@ fn read_delta(
 // One id, of which nothing is stored yet; an uncoded one is a copy.
 fn read_id(
     reader: &mut Reader,
-    codes: &[u16; 512],
+    codes: &CodeTable,
     chroma: bool,
     id: usize,
     d: &mut VvcScalingListData,
 ) -> Result<(), Refusal>
-    requires { (id < 28) × (stored_in d.old id blank ≡ d.old) × ShortCodes codes.now }
+    requires { (id < 28) × (stored_in d.old id blank ≡ d.old) }
     ensures { Reads (id_in d.old chroma id) (filled result d.new reader.new.at) reader.old reader.new }
 {
     if !scaling_id_coded(id, chroma) {
@@ -133,7 +126,7 @@ pub(crate) fn parse_scaling_list_data(
     requires { d.old ≡ zero_scaling }
     ensures { Reads (kept chroma) (filled result d.new reader.new.at) reader.old reader.new }
 {
-    let codes = short_codes();
+    let codes = CodeTable::new();
     for id in 0..28 {
         read_id(reader, &codes, chroma, id, d)?;
     }

@@ -6,7 +6,7 @@ ghost use Rattle.aps.specs.Reading.{outcome_read, outcome_aps, set_given, head_o
 
 use crate::aps::{ApsReading, HeadReading, parse_aps_head, parse_aps_rbsp, refuse, refuse_head};
 use crate::nal_header::{NAL_TYPE_PREFIX_APS, NAL_TYPE_SUFFIX_APS};
-use bitstream::nal::{Size, ebsp_to_rbsp};
+use bitstream::nal::ebsp_to_rbsp;
 use bitstream::{LONGEST_INPUT, Refusal};
 
 // A prefix or a suffix APS.
@@ -45,13 +45,13 @@ fn admit(unit: &[u8], room: usize) -> Admission
 }
 
 // The RBSP of a unit that is admitted, put at the start of the work buffer: how many bytes it has.
-pub(crate) fn rbsp_to_work(unit: &[u8], work: &mut [u8]) -> Size
+pub(crate) fn rbsp_to_work(unit: &[u8], work: &mut [u8]) -> Result<usize, Refusal>
     ensures answer { Unwrapped result (parse_aps unit.now (length work.old)) work.new }
     ensures work { work.new ≡ work_after unit.now work.old }
 {
     match admit(unit, work.len()) {
         Admission::Aps => ebsp_to_rbsp(&unit[2..], work),
-        Admission::Refused(why) => Size::Refused(why),
+        Admission::Refused(why) => Err(why),
     }
 }
 
@@ -62,8 +62,8 @@ pub fn parse_aps(unit: &[u8], work: &mut [u8]) -> ApsReading
     ensures work { work.new ≡ work_after unit.now work.old }
 {
     match rbsp_to_work(unit, work) {
-        Size::Bytes(n) => parse_aps_rbsp(&work[..n]),
-        Size::Refused(why) => refuse(why),
+        Ok(n) => parse_aps_rbsp(&work[..n]),
+        Err(why) => refuse(why),
     }
 }
 
@@ -75,7 +75,7 @@ pub fn parse_unit_head(unit: &[u8], work: &mut [u8]) -> HeadReading
     ensures work { work.new ≡ work_after unit.now work.old }
 {
     match rbsp_to_work(unit, work) {
-        Size::Bytes(n) => parse_aps_head(&work[..n]),
-        Size::Refused(why) => refuse_head(why),
+        Ok(n) => parse_aps_head(&work[..n]),
+        Err(why) => refuse_head(why),
     }
 }

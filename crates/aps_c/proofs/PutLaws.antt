@@ -1,5 +1,5 @@
 -- Numbers written into an array one after another.
-use Prim.Native.Nat.{ℕ, suc, ◌+◌, ◌<◌, ◌≤◌}
+use Prim.Native.Nat.{ℕ, suc, ◌+◌, ◌<◌}
 use mathlib.Core.Path.{◌≡◌, refl, ap, ◌∙◌}
 use mathlib.Core.Bool.{Bool, true, false}
 use mathlib.Core.List.{List, [], ◌∷◌, ◌++◌, map, map-append}
@@ -9,6 +9,7 @@ use native.Mathlib.Nat.{add-zero}
 use lib.IntN.{ℤ}
 use lib.ListN.{length, take, get_or, set, length-append, length-map}
 use lib.Seq.{sets, take-suc, take_all, length-take-le}
+use mir.Val.{bool_byte}
 use Rattle.aps_c.specs.Numbers.{Put, flag_number}
 
 module _ {A : Type 0} where
@@ -47,6 +48,7 @@ module _ {X : Type 0} (f : X → ℤ) (src : List X) (before : List ℤ) (from :
       let n : length (map f src) ≡ length src = length-map src f in
       record { holds = e ∙ rw t; ends = omega arith }
 
-pub flag_small : (b : Bool) → flag_number b ≤ 1
-flag_small true = omega arith
-flag_small false = omega arith
+-- a flag as std makes a number of it
+pub flag-byte : (b : Bool) → bool_byte b ≡ flag_number b
+flag-byte true = refl
+flag-byte false = refl

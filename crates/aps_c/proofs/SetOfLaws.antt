@@ -9,7 +9,8 @@ use lib.Dec.{eqb}
 use lib.IntN.{ℤ, pos, negsuc}
 use lib.ListN.{length, drop, get_or}
 use lib.Seq.{take-add, take_all, drop-drop, drop-cons}
-use Rattle.aps.specs.Elements.{every}
+use Rattle.std.specs.List.{list_all}
+use Rattle.std.proofs.lemmas.List.Folds.{list_all-append}
 use Rattle.aps.specs.ApsSyntax.{number_of}
 use Rattle.aps.proofs.CodecLaws.{never_true, and_left, and_right}
 use Rattle.aps_c.specs.Numbers.{flag_number, naturals, flags, luma_numbers, chroma_numbers, cc_numbers, alf_numbers, lmcs_numbers, scaling_numbers, numbers}
@@ -46,12 +47,8 @@ integer-back z h = sym (integer-in z h)
 
 -- ---- parts of a list
 
-every_append : {A : Type 0} (f : A → Bool) (xs ys : List A) → every f (xs ++ ys) ≡ true → (every f xs ≡ true) × (every f ys ≡ true)
-every_append f [] ys h = (refl, h)
-every_append f (x ∷ xs) ys h =
-    let a = and_left (f x) (every f (xs ++ ys)) h in
-    let r = every_append f xs ys (and_right (f x) (every f (xs ++ ys)) h) in
-    (rw (a, r.0), r.1)
+both : (a b : Bool) → (a && b) ≡ true → (a ≡ true) × (b ≡ true)
+both a b h = (and_left a b h, and_right a b h)
 
 part-split : (l : List ℤ) (i n m : ℕ) → part l i (n + m) ≡ part l i n ++ part l (i + n) m
 part-split l i n m = rw (take-add n m (drop i l), drop-drop n i l)
@@ -62,15 +59,17 @@ join l i n j m {xs} {ys} e f g = rw (f, g, e) (sym (part-split l i n m))
 
 all_split : (low high : ℤ) (l : List ℤ) (i n m : ℕ) → all_in low high l i (n + m) ≡ true → (all_in low high l i n ≡ true) × (all_in low high l (i + n) m ≡ true)
 unfolding all_in
-all_split low high l i n m h = every_append (between low high) (part l i n) (part l (i + n) m) (rw (part-split l i n m) at h)
+all_split low high l i n m h =
+    let p = between low high in
+    both _ _ (rw (part-split l i n m, list_all-append p (part l i n) (part l (i + n) m)) at h)
 
 -- Numbers that are had back from what is made of each of them.
 module _ {A : Type 0} (f : A → ℤ) (g : ℤ → A) (low high : ℤ) (back : (z : ℤ) → between low high z ≡ true → f (g z) ≡ z) where
-  map_back : (xs : List ℤ) → every (between low high) xs ≡ true → map f (map g xs) ≡ xs
+  map_back : (xs : List ℤ) → list_all (between low high) xs ≡ true → map f (map g xs) ≡ xs
   map_back [] h = refl
   map_back (x ∷ xs) h =
-      let a = back x (and_left (between low high x) (every (between low high) xs) h) in
-      let r = map_back xs (and_right (between low high x) (every (between low high) xs) h) in
+      let a = back x (and_left (between low high x) (list_all (between low high) xs) h) in
+      let r = map_back xs (and_right (between low high x) (list_all (between low high) xs) h) in
       rw (a, r)
 
   many : (l : List ℤ) (i n : ℕ) → all_in low high l i n ≡ true → map f (map g (part l i n)) ≡ part l i n
@@ -81,45 +80,37 @@ module _ {A : Type 0} (f : A → ℤ) (g : ℤ → A) (low high : ℤ) (back : (
   unfolding all_in
   one l i b h =
       let d : part l i 1 ≡ get_or l i (pos 0) ∷ [] = rw (drop-cons l i (pos 0) b) in
-      let k : every (between low high) (get_or l i (pos 0) ∷ []) ≡ true = rw d at h in
+      let k : list_all (between low high) (get_or l i (pos 0) ∷ []) ≡ true = rw d at h in
       rw (d, back (get_or l i (pos 0)) (and_left (between low high (get_or l i (pos 0))) true k))
 
 -- the kinds of fields, many from index i on and one
 module _ (l : List ℤ) where
   bytes : (i n : ℕ) → all_in (pos 0) (pos 255) l i n ≡ true → naturals (bytes_at l i n) ≡ part l i n
-  unfolding naturals bytes_at
+  unfolding naturals
   bytes i n h = many pos (natural 255) (pos 0) (pos 255) (natural-back 255) l i n h
 
   words : (i n : ℕ) → all_in (pos 0) (pos 4294967295) l i n ≡ true → naturals (words_at l i n) ≡ part l i n
-  unfolding naturals words_at
+  unfolding naturals
   words i n h = many pos (natural 4294967295) (pos 0) (pos 4294967295) (natural-back 4294967295) l i n h
 
   truths : (i n : ℕ) → all_in (pos 0) (pos 1) l i n ≡ true → flags (flags_at l i n) ≡ part l i n
-  unfolding flags flags_at
+  unfolding flags
   truths i n h = many (λ b. pos (flag_number b)) truth (pos 0) (pos 1) truth-back l i n h
 
   integers : (i n : ℕ) → all_in (negsuc 2147483647) (pos 2147483647) l i n ≡ true → integers_at l i n ≡ part l i n
-  unfolding integers_at
   integers i n h = sym (map_same (map integer (part l i n))) ∙ many (λ z. z) integer (negsuc 2147483647) (pos 2147483647) integer-back l i n h
 
   byte : (i : ℕ) → i < length l → all_in (pos 0) (pos 255) l i 1 ≡ true → ◌≡◌ {A = List ℤ} (pos (byte_at l i) ∷ []) (part l i 1)
-  unfolding byte_at
   byte i b h = one pos (natural 255) (pos 0) (pos 255) (natural-back 255) l i b h
 
   word : (i : ℕ) → i < length l → all_in (pos 0) (pos 4294967295) l i 1 ≡ true → ◌≡◌ {A = List ℤ} (pos (word_at l i) ∷ []) (part l i 1)
-  unfolding word_at
   word i b h = one pos (natural 4294967295) (pos 0) (pos 4294967295) (natural-back 4294967295) l i b h
 
   flag : (i : ℕ) → i < length l → all_in (pos 0) (pos 1) l i 1 ≡ true → ◌≡◌ {A = List ℤ} (pos (flag_number (flag_at l i)) ∷ []) (part l i 1)
-  unfolding flag_at
   flag i b h = one (λ b. pos (flag_number b)) truth (pos 0) (pos 1) truth-back l i b h
 
   kind : (i : ℕ) → i < length l → all_in (pos 0) (pos 2) l i 1 ≡ true → ◌≡◌ {A = List ℤ} (pos (number_of (kind_of (byte_at l i))) ∷ []) (part l i 1)
-  unfolding byte_at
   kind i b h = one (λ n. pos (number_of (kind_of n))) (natural 255) (pos 0) (pos 2) kind-back l i b h
-
-both : (a b : Bool) → (a && b) ≡ true → (a ≡ true) × (b ≡ true)
-both a b h = (and_left a b h, and_right a b h)
 
 -- ---- the records
 

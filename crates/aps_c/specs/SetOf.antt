@@ -1,7 +1,7 @@
 -- The set that a list of numbers stands for, each number in the place that `numbers` gives it, and the numbers that the fields can hold.
 use Rattle.std.specs.Prelude.{ℕ, ◌+◌, Bool, cond, ◌&&◌, List, map, eqb, ℤ, pos, negsuc, nat_abs, length, get_or, take, drop}
 use Rattle.std.specs.Int.Signed.{le_z}
-use Rattle.aps.specs.Elements.{every}
+use Rattle.std.specs.List.{list_all}
 use Rattle.aps.specs.ScalingSyntax.{eq_z}
 use Rattle.aps.specs.declared.alf.VvcAlfLuma.{VvcAlfLuma}
 use Rattle.aps.specs.declared.alf.VvcAlfChroma.{VvcAlfChroma}
@@ -33,26 +33,26 @@ unfoldable pub kind_of : ℕ → ApsKind
 kind_of n = cond (eqb n 1) ApsKind.Lmcs (cond (eqb n 2) ApsKind.Scaling ApsKind.Alf)
 
 -- n fields from index i on
-unfoldable pub bytes_at : List ℤ → ℕ → ℕ → List ℕ
+abbrev pub bytes_at : List ℤ → ℕ → ℕ → List ℕ
 bytes_at l i n = map (natural 255) (part l i n)
 
-unfoldable pub words_at : List ℤ → ℕ → ℕ → List ℕ
+abbrev pub words_at : List ℤ → ℕ → ℕ → List ℕ
 words_at l i n = map (natural 4294967295) (part l i n)
 
-unfoldable pub integers_at : List ℤ → ℕ → ℕ → List ℤ
+abbrev pub integers_at : List ℤ → ℕ → ℕ → List ℤ
 integers_at l i n = map integer (part l i n)
 
-unfoldable pub flags_at : List ℤ → ℕ → ℕ → List Bool
+abbrev pub flags_at : List ℤ → ℕ → ℕ → List Bool
 flags_at l i n = map truth (part l i n)
 
 -- one field
-unfoldable pub byte_at : List ℤ → ℕ → ℕ
+abbrev pub byte_at : List ℤ → ℕ → ℕ
 byte_at l i = natural 255 (get_or l i (pos 0))
 
-unfoldable pub word_at : List ℤ → ℕ → ℕ
+abbrev pub word_at : List ℤ → ℕ → ℕ
 word_at l i = natural 4294967295 (get_or l i (pos 0))
 
-unfoldable pub flag_at : List ℤ → ℕ → Bool
+abbrev pub flag_at : List ℤ → ℕ → Bool
 flag_at l i = truth (get_or l i (pos 0))
 
 -- the records, each from index i on
@@ -129,7 +129,7 @@ set_of l =
 
 -- the numbers that the fields of a set can hold: n of them from index i on
 unfoldable pub all_in : ℤ → ℤ → List ℤ → ℕ → ℕ → Bool
-all_in low high l i n = every (between low high) (part l i n)
+all_in low high l i n = list_all (between low high) (part l i n)
 
 abbrev pub flags_in : List ℤ → ℕ → ℕ → Bool
 flags_in l i n = all_in (pos 0) (pos 1) l i n

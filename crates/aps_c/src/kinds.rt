@@ -10,7 +10,6 @@ use aps::aps::{Alf, ApsKind, ApsOutcome, Lmcs, Scaling, number_of};
 use aps::lmcs_set::parse_lmcs_rbsp;
 use aps::scaling_set::parse_scaling_rbsp;
 use aps::write::{write_alf, write_lmcs, write_scaling};
-use bitstream::number;
 
 // An ALF set read by its own kind: whether there is a set, and the bit where reading it ended.
 pub fn aps_alf_end(bytes: &[u8], end: &mut [u64; 1]) -> u32
@@ -40,10 +39,9 @@ pub fn aps_alf_rewrite(bytes: &[u8], out: &mut [u8], len: &mut [u64; 1]) -> u32
             let id = head.aps_adaptation_parameter_set_id;
             let chroma = head.aps_chroma_present_flag;
             let extension = head.aps_extension_flag;
-            let d = reading.alf;
-            sized(write_alf(id, chroma, extension, d, out), len)
+            sized(write_alf(id, chroma, extension, &reading.alf, out), len)
         }
-        ApsOutcome::Refused(e) => number(e),
+        ApsOutcome::Refused(e) => e.into(),
     }
 }
 
@@ -75,10 +73,9 @@ pub fn aps_lmcs_rewrite(bytes: &[u8], out: &mut [u8], len: &mut [u64; 1]) -> u32
             let id = head.aps_adaptation_parameter_set_id;
             let chroma = head.aps_chroma_present_flag;
             let extension = head.aps_extension_flag;
-            let d = reading.lmcs;
-            sized(write_lmcs(id, chroma, extension, d, out), len)
+            sized(write_lmcs(id, chroma, extension, &reading.lmcs, out), len)
         }
-        ApsOutcome::Refused(e) => number(e),
+        ApsOutcome::Refused(e) => e.into(),
     }
 }
 
@@ -110,9 +107,11 @@ pub fn aps_scaling_rewrite(bytes: &[u8], out: &mut [u8], len: &mut [u64; 1]) -> 
             let id = head.aps_adaptation_parameter_set_id;
             let chroma = head.aps_chroma_present_flag;
             let extension = head.aps_extension_flag;
-            let d = reading.scaling;
-            sized(write_scaling(id, chroma, extension, d, out), len)
+            sized(
+                write_scaling(id, chroma, extension, &reading.scaling, out),
+                len,
+            )
         }
-        ApsOutcome::Refused(e) => number(e),
+        ApsOutcome::Refused(e) => e.into(),
     }
 }

@@ -3,8 +3,8 @@
 
 ghost use Rattle.std.specs.Prelude.{◌≡◌, List, ℕ, length};
 ghost use Rattle.std.proofs.lemmas.List.Edits.{sets};
-ghost use Rattle.bitstream.specs.Outcome.{left};
-ghost use Rattle.bitstream.specs.Escapes.{outcome_size, ebsp_to_rbsp, rbsp_to_ebsp};
+ghost use Rattle.bitstream.specs.Outcome.{left, outcome_written};
+ghost use Rattle.bitstream.specs.Escapes.{ebsp_to_rbsp, rbsp_to_ebsp};
 ghost use Rattle.aps.specs.Reading.{outcome_read, outcome_aps};
 ghost use Rattle.aps.specs.Rbsp.{parse_aps_rbsp};
 ghost use Rattle.aps.specs.Unit.{parse_nal_header, parse_aps, work_after};
@@ -19,8 +19,8 @@ use aps::aps::{ApsOutcome, ApsReading, parse_aps_head, parse_aps_rbsp};
 use aps::nal_header::{HeaderRead, VvcNalHeader, parse_nal_header};
 use aps::unit::{parse_aps, parse_unit_head};
 use aps::write::{write_aps, write_aps_nal};
-use bitstream::nal::{Size, ebsp_to_rbsp, rbsp_to_ebsp};
-use bitstream::number;
+use bitstream::Refusal;
+use bitstream::nal::{ebsp_to_rbsp, rbsp_to_ebsp};
 
 pub mod kinds;
 mod numbers;
@@ -36,11 +36,11 @@ fn answered(reading: ApsReading, set: &mut [i64; NUMBERS], end: &mut [u64; 1]) -
     let outcome = reading.outcome;
     match outcome {
         ApsOutcome::Read(q) => {
-            put_set(reading.set, set);
+            put_set(&reading.set, set);
             end[0] = q as u64;
             0
         }
-        ApsOutcome::Refused(e) => number(e),
+        ApsOutcome::Refused(e) => e.into(),
     }
 }
 
@@ -63,7 +63,7 @@ pub fn aps_parse_nal_header(unit: &[u8], header: &mut [u8; 5]) -> u32
             put_header(h, header);
             0
         }
-        HeaderRead::Refused(e) => number(e),
+        HeaderRead::Refused(e) => e.into(),
     }
 }
 
@@ -85,7 +85,7 @@ pub(crate) fn ended(outcome: ApsOutcome, end: &mut [u64; 1]) -> u32
             end[0] = q as u64;
             0
         }
-        ApsOutcome::Refused(e) => number(e),
+        ApsOutcome::Refused(e) => e.into(),
     }
 }
 
@@ -120,16 +120,16 @@ pub fn aps_parse(unit: &[u8], work: &mut [u8], set: &mut [i64; NUMBERS], end: &m
 }
 
 // How many bytes were written.
-pub(crate) fn sized(size: Size, len: &mut [u64; 1]) -> u32
-    ensures code { (l : List ℕ) → result ≡ code (outcome_size size l) }
-    ensures len { (l : List ℕ) → len.new ≡ place_left (outcome_size size l) len.old }
+pub(crate) fn sized(size: Result<usize, Refusal>, len: &mut [u64; 1]) -> u32
+    ensures code { (l : List ℕ) → result ≡ code (outcome_written size l) }
+    ensures len { (l : List ℕ) → len.new ≡ place_left (outcome_written size l) len.old }
 {
     match size {
-        Size::Bytes(n) => {
+        Ok(n) => {
             len[0] = n as u64;
             0
         }
-        Size::Refused(e) => number(e),
+        Err(e) => e.into(),
     }
 }
 
@@ -142,7 +142,7 @@ pub fn aps_write(set: &[i64], out: &mut [u8], len: &mut [u64; 1]) -> u32
     if !is_set(set) {
         return 2;
     }
-    sized(write_aps(set_of(set), out), len)
+    sized(write_aps(&set_of(set), out), len)
 }
 
 // A set as a unit at the start of out, and its length.
@@ -154,7 +154,7 @@ pub fn aps_write_nal(set: &[i64], unit_type: u8, out: &mut [u8], len: &mut [u64;
     if !is_set(set) {
         return 2;
     }
-    sized(write_aps_nal(set_of(set), unit_type, out), len)
+    sized(write_aps_nal(&set_of(set), unit_type, out), len)
 }
 
 // A set read from an RBSP and written again at the start of out, and its length.
@@ -166,8 +166,8 @@ pub fn aps_rewrite(bytes: &[u8], out: &mut [u8], len: &mut [u64; 1]) -> u32
     let reading = parse_aps_rbsp(bytes);
     let outcome = reading.outcome;
     match outcome {
-        ApsOutcome::Read(_) => sized(write_aps(reading.set, out), len),
-        ApsOutcome::Refused(e) => number(e),
+        ApsOutcome::Read(_) => sized(write_aps(&reading.set, out), len),
+        ApsOutcome::Refused(e) => e.into(),
     }
 }
 

@@ -1,6 +1,6 @@
 -- The refusals that the field reads share, and what an answer with a value says.
 use Prim.Native.Nat.{ℕ, ◌+◌, ◌-◌, ◌*◌, ◌^◌, ◌≤◌, ◌<◌}
-use mathlib.Core.Path.{◌≡◌, refl, sym, ◌∙◌}
+use mathlib.Core.Path.{◌≡◌, refl, sym, ap, ◌∙◌}
 use mathlib.Core.List.{List}
 use mathlib.Core.Bool.{Bool, true, false, cond}
 use borrow.Author.Tests.{lt-ltb, le-ltb, ltb-true, ltb-false, eqb-true}
@@ -9,7 +9,7 @@ use lib.ListN.{length}
 use Rattle.bitstream.specs.Outcome.{Outcome, value, refused, map_outcome}
 use Rattle.bitstream.specs.Bits.{field_at}
 use Rattle.bitstream.specs.Fields.{read_u, lacks, zeros_at, suffix_at, ue_value, read_ue, ue_asked, read_se, read_trailing, trailing_width, trailing_value, se_value}
-use Rattle.bitstream.specs.Reading.{BelowMost, within, lacking_for, u_at, ue_at, ue_lacking, se_at, se_lacking, trailing_at}
+use Rattle.bitstream.specs.Reading.{BelowMost, within, started, lacking_for, u_at, ue_at, ue_lacking, se_at, se_lacking, trailing_at}
 use Rattle.bitstream.proofs.CodeLaws.{ue-refused, ue-read, value-refused, ue-max}
 
 module _ {A : Type 0} (s : List ℕ) (p : ℕ) (o : Outcome A) where
@@ -59,14 +59,33 @@ pub se-lacks : (s : List ℕ) (p : ℕ) → se_lacking s p ≡ ue_lacking s p
 unfolding se_lacking ue_lacking
 se-lacks s p = rw (se-of-ue s p) (lacking-map se_value (ue_at s p) (lacks s p (ue_asked s p)))
 
+-- a start that is refused
+pub started-refused : {A : Type 0} (s : List ℕ) (p : ℕ) (o : Outcome A) {n : ℕ} → started s p ≡ refused n → within s p o ≡ refused n
+unfolding within started
+started-refused s p o {n} e = go (ltb 65536 (length s)) (ltb 1048576 p) e
+  where
+    go : (b₁ b₂ : Bool) → cond b₁ (refused 4) (cond b₂ (refused 2) (value (tt {0}) p)) ≡ refused n → cond b₁ (refused 4) (cond b₂ (refused 2) o) ≡ refused n
+    go true b₂ e = cc
+    go false true e = cc
+    go false false e = absurd (value-refused e)
+
 -- ---- whether bits were lacking
 
-module _ {A : Type 0} {o answer : Outcome A} {lacking : Bool} (b : Bool) where
-  pub lacking-refused : {n : ℕ} → (answer ≡ refused n) × (lacking ≡ false) → o ≡ refused n → (answer ≡ o) × (lacking ≡ lacking_for o b)
-  lacking-refused h e = rw e h
+module _ {A : Type 0} {o : Outcome A} (b : Bool) where
+  pub lacking-refused : {n : ℕ} → o ≡ refused n → (refused n ≡ o) × (false ≡ lacking_for o b)
+  lacking-refused e = rw e (refl, refl)
 
-  pub lacking-value : {v : A} {q : ℕ} → (answer ≡ value v q) × (lacking ≡ b) → o ≡ value v q → (answer ≡ o) × (lacking ≡ lacking_for o b)
-  lacking-value h e = rw e h
+  pub lacking-value : {v : A} {q : ℕ} {lacking : Bool} → o ≡ value v q → lacking ≡ b → (value v q ≡ o) × (lacking ≡ lacking_for o b)
+  lacking-value e h = rw e (refl, h)
+
+-- an se by the ue at the same bit
+module _ (s : List ℕ) (p : ℕ) where
+  pub se-value : {k q : ℕ} {lacking : Bool} → value k q ≡ ue_at s p → lacking ≡ ue_lacking s p → (value (se_value k) q ≡ se_at s p) × (lacking ≡ se_lacking s p)
+  se-value e h = (ap (map_outcome se_value) e ∙ sym (se-of-ue s p), h ∙ sym (se-lacks s p))
+
+  pub se-refused : {n : ℕ} → refused n ≡ ue_at s p → (refused n ≡ se_at s p) × (false ≡ se_lacking s p)
+  unfolding se_lacking
+  se-refused e = lacking-refused _ (se-of-ue s p ∙ ap (map_outcome se_value) (sym e))
 
 -- ---- inside the limits a call answers what the syntax reads
 
@@ -86,9 +105,9 @@ module _ (s : List ℕ) (p : ℕ) (h : length s ≤ 65536) (l : p ≤ 1048576) w
     unfolding ue_lacking ue_asked ue_value
     ue-given k b f i = rw (ue-in, ue-read s p e k, e, ← b, ← f) (refl, i)
 
-    pub ue-not : {answer : Outcome ℕ} {lacking : Bool} → 32 ≤ z → (answer ≡ refused 2) × (lacking ≡ false) → (answer ≡ ue_at s p) × (lacking ≡ ue_lacking s p)
+    pub ue-not : 32 ≤ z → (refused 2 ≡ ue_at s p) × (false ≡ ue_lacking s p)
     unfolding ue_lacking
-    ue-not k r = lacking-refused _ r (ue-in ∙ ue-refused s p e k)
+    ue-not k = lacking-refused _ (ue-in ∙ ue-refused s p e k)
 
   pub se-in : se_at s p ≡ read_se s p
   unfolding se_at

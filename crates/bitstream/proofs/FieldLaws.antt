@@ -1,11 +1,13 @@
 -- Laws of `bit_at` and `field_at`, for every width.
 use Prim.Native.Nat.{ℕ, zero, suc, ◌+◌, ◌-◌, ◌*◌, ◌/◌, ◌%◌, ◌^◌, ◌≤◌, ◌<◌}
 use mathlib.Core.Path.{◌≡◌, refl, sym, ap, ap₂, ◌∙◌}
-use mathlib.Core.List.{List}
+use mathlib.Core.List.{List, ◌++◌}
+use Rattle.std.proofs.Math.Seq.{get_or-append_right}
+use Rattle.std.proofs.lemmas.List.{get_or_append_left}
 use native.Mathlib.Nat.{add-zero, add-suc, zero-div, pow-suc, mul_assoc, div-eq_of_lt}
 use native.Mathlib.Decide.{dec_lt}
 use native.Mathlib.Omega.{arith}
-use lib.ListN.{get_or, length, get_or-eq_default}
+use lib.ListN.{get_or, length, replicate, get_or-eq_default}
 use lib.Count.{count_leading_zeros, leading_length}
 use lib.Pow.{shl_lt, shl-shr, shr-shr, pow_pos, high, low, mod-pow-add}
 use Rattle.bitstream.specs.Bits.{bit_at, field_at}
@@ -71,13 +73,26 @@ field_past s p (suc n) h = omega (arith, field_past s p n h, bit_past s (p + n) 
 pub field_end : (s : List ℕ) (p n k : ℕ) → length s * 8 ≤ p + n → field_at s p (n + k) ≡ field_at s p n * 2 ^ k
 field_end s p n k h = field-add s p n k ∙ omega (arith, field_past s (p + n) k h)
 
--- ---- parts of a longer field
+-- every entry of zeros is 0, past their end too
+zeros : (m i : ℕ) → ◌≡◌ {A = ℕ} (get_or (replicate m 0) i 0) 0
+zeros zero i = refl
+zeros (suc m) zero = refl
+zeros (suc m) (suc i) = zeros m i
 
--- the n bits after the first m and before the last k
-pub field_cut : (s : List ℕ) (p m n k : ℕ) → field_at s p (m + n + k) / 2 ^ k % 2 ^ n ≡ field_at s (p + m) n
-field_cut s p m n k =
-    rw (field-add s p (m + n) k, high (field_at s p (m + n)) k (field_lt s (p + (m + n)) k), field-add s p m n)
-    (low (field_at s p m) n (field_lt s (p + m) n))
+-- zero bytes after the end change no bit
+byte-padded : (s : List ℕ) (m i : ℕ) → get_or (s ++ replicate m 0) i 0 ≡ get_or s i 0
+byte-padded s m i = go (dec_lt i (length s))
+  where
+    go : Dec (i < length s) → get_or (s ++ replicate m 0) i 0 ≡ get_or s i 0
+    go (yes h) = get_or_append_left s (replicate m 0) 0 i h
+    go (no h) = rw (get_or-append_right s (replicate m 0) i 0 (omega arith), get_or-eq_default s 0 {n = i} (omega arith)) (zeros m (i - length s))
+
+pub field-padded : (s : List ℕ) (m p n : ℕ) → field_at (s ++ replicate m 0) p n ≡ field_at s p n
+unfolding field_at bit_at
+field-padded s m p zero = refl
+field-padded s m p (suc n) = rw (field-padded s m p n, byte-padded s m ((p + n) / 8))
+
+-- ---- parts of a longer field
 
 -- the last n bits, moved up by k in n + k bits
 pub field-up : (s : List ℕ) (p m n k : ℕ) → field_at s p (m + n) * 2 ^ k % 2 ^ (n + k) ≡ field_at s (p + m) n * 2 ^ k
@@ -116,15 +131,6 @@ field-grow s i n x b e h =
 module _ (s : List ℕ) (p m w : ℕ) (e : w ≡ field_at s (p / 8 * 8) m) where
   at-bit : p / 8 * 8 + p % 8 ≡ p
   at-bit = omega arith
-
-  -- it holds the field of n bits at p
-  pub window-field : (n : ℕ) → p % 8 + n ≤ m → w / 2 ^ (m - p % 8 - n) % 2 ^ n ≡ field_at s p n
-  window-field n h =
-      let k = m - p % 8 - n in
-      let f : p % 8 + n + k ≡ m = omega arith in
-      rw e
-      (ap (λ (x : ℕ). field_at s (p / 8 * 8) x / 2 ^ k % 2 ^ n) (sym f)
-      ∙ field_cut s (p / 8 * 8) (p % 8) n k ∙ ap (λ (x : ℕ). field_at s x n) at-bit)
 
   -- moved up in a word of v bits, so that bit p is the highest
   pub window-up : (v : ℕ) → 8 ≤ m → m ≤ v → (w * 2 ^ (v - m + p % 8)) % 2 ^ v ≡ field_at s p (m - p % 8) * 2 ^ (v - m + p % 8)

@@ -1,5 +1,6 @@
 -- Laws of windows, stated once over the widths: how one starts, drops bits, and gives a field or a code.
 use Prim.Native.Nat.{ℕ, suc, ◌+◌, ◌-◌, ◌*◌, ◌/◌, ◌%◌, ◌^◌, ◌≤◌, ◌<◌}
+use Rattle.std.specs.Prelude.{Option, Some, None}
 use mathlib.Core.Path.{◌≡◌, sym, ap, ◌∙◌}
 use mathlib.Core.List.{List}
 use native.Mathlib.Nat.{lt_of_lt_of_le, mul_assoc, mod-lt, div-eq_of_lt, pow-suc}
@@ -31,12 +32,12 @@ window-here s p w e =
     let q : 64 - 64 + p % 8 ≡ p % 8 = omega arith in
     rw q at (window-up s p 64 w e 64 (omega arith) (omega arith))
 
--- the last eight bytes, moved up to bit p, which one of the last seven of them holds
-pub window-last : (s : List ℕ) (p n w : ℕ) → length s ≡ n → 8 ≤ n → n < p / 8 + 8 → p / 8 < n → w ≡ field_at s ((n - 8) * 8) 64
-    → (w * 2 ^ (p - (n - 8) * 8)) % 2 ^ 64 ≡ window_at s p
+-- eight bytes from byte i on, after which there are no more, moved up to bit p, which one of them holds
+pub window-last : (s : List ℕ) (p i w : ℕ) → length s ≤ i + 8 → i ≤ p / 8 → p / 8 < i + 8 → w ≡ field_at s (i * 8) 64
+    → (w * 2 ^ (p - i * 8)) % 2 ^ 64 ≡ window_at s p
 unfolding window_at
-window-last s p n w l h j i e =
-    let a = (n - 8) * 8 in
+window-last s p i w l h j e =
+    let a = i * 8 in
     let k = p - a in
     let r = p % 8 in
     let x = field_at s p (64 - k) in
@@ -87,35 +88,30 @@ pub record Found (w v k : ℕ) : Type 0 where
   pub bits : k ≡ 2 * count_leading_zeros 64 w + 1
   pub is : v ≡ code_of 64 w (count_leading_zeros 64 w) - 1
 
-pub code-found : (w : ℕ) (c : ℕ × ℕ) → c ≡ code_in w → 0 < c.1 → Found w c.0 c.1
+pub code-found : (w : ℕ) {v k : ℕ} → Some (v, k) ≡ code_in w → Found w v k
 unfolding code_in
-code-found w c e a = go (dec_lt 8 (count_leading_zeros 64 w))
+code-found w {v} {k} e = go (dec_lt 8 (count_leading_zeros 64 w))
   where
-    go : Dec (8 < count_leading_zeros 64 w) → Found w c.0 c.1
-    go (yes h) =
-        let none : (code_in w).1 ≡ 0 = rw (lt-ltb 8 (count_leading_zeros 64 w) h) in
-        absurd (omega (arith, ap (λ (x : ℕ × ℕ). x.1) e))
+    go : Dec (8 < count_leading_zeros 64 w) → Found w v k
+    go (yes h) = let none : ◌≡◌ {A = Option (ℕ × ℕ)} (Some (v, k)) None = rw (lt-ltb 8 (count_leading_zeros 64 w) h) at e in absurd (cc)
     go (no h) =
-        let bits : (code_in w).1 ≡ 2 * count_leading_zeros 64 w + 1 = rw (le-ltb 8 (count_leading_zeros 64 w) (omega arith)) in
-        let is : (code_in w).0 ≡ code_of 64 w (count_leading_zeros 64 w) - 1 = rw (le-ltb 8 (count_leading_zeros 64 w) (omega arith)) in
-        record { few = omega arith; bits = ap (λ (x : ℕ × ℕ). x.1) e ∙ bits; is = ap (λ (x : ℕ × ℕ). x.0) e ∙ is }
+        let z = count_leading_zeros 64 w in
+        let some : ◌≡◌ {A = Option (ℕ × ℕ)} (Some (v, k)) (Some (code_of 64 w z - 1, 2 * z + 1)) = rw (le-ltb 8 z (omega arith)) at e in
+        let pair : ◌≡◌ {A = ℕ × ℕ} (v, k) (code_of 64 w z - 1, 2 * z + 1) = cc in
+        record { few = omega arith; bits = ap (λ (x : ℕ × ℕ). x.1) pair; is = ap (λ (x : ℕ × ℕ). x.0) pair }
 
 -- it has at most 17 bits
-pub code-most : (w : ℕ) (c : ℕ × ℕ) → c ≡ code_in w → c.1 ≤ 17
-code-most w c e = go (dec_lt 0 c.1)
-  where
-    go : Dec (0 < c.1) → c.1 ≤ 17
-    go (yes h) = let f = code-found w c e h in omega (arith, f.bits, f.few)
-    go (no h) = omega arith
+pub code-most : (w : ℕ) {v k : ℕ} → Some (v, k) ≡ code_in w → k ≤ 17
+code-most w e = let f = code-found w e in omega (arith, f.bits, f.few)
 
 -- a code of at most 8 zeros, and a longer one
-pub code-by-zeros : (w : ℕ) (c : ℕ × ℕ) → count_leading_zeros 64 w ≤ 8 → c.0 ≡ code_of 64 w (count_leading_zeros 64 w) - 1 → c.1 ≡ 2 * count_leading_zeros 64 w + 1 → c ≡ code_in w
+pub code-by-zeros : (w : ℕ) {v k : ℕ} → count_leading_zeros 64 w ≤ 8 → v ≡ code_of 64 w (count_leading_zeros 64 w) - 1 → k ≡ 2 * count_leading_zeros 64 w + 1 → Some (v, k) ≡ code_in w
 unfolding code_in
-code-by-zeros w c h e f = rw (le-ltb 8 (count_leading_zeros 64 w) (omega arith), e, f)
+code-by-zeros w h e f = rw (le-ltb 8 (count_leading_zeros 64 w) (omega arith), e, f)
 
-pub code-none : (w : ℕ) (c : ℕ × ℕ) → 8 < count_leading_zeros 64 w → c.0 ≡ 0 → c.1 ≡ 0 → c ≡ code_in w
+pub code-none : (w : ℕ) → 8 < count_leading_zeros 64 w → None ≡ code_in w
 unfolding code_in
-code-none w c h e f = rw (lt-ltb 8 (count_leading_zeros 64 w) h, e, f)
+code-none w h = rw (lt-ltb 8 (count_leading_zeros 64 w) h)
 
 -- ---- a window's laws
 
@@ -195,9 +191,9 @@ module _ {s : List ℕ} {p left w : ℕ} (h : IsWindow s p left w) where
       omega (arith, zeros-are s p z (omega (arith, h.most)) (window-zeros (omega arith)) (window-one (omega arith)))
 
   -- the same of a code that was found in it
-  pub window-found : (c : ℕ × ℕ) → c ≡ code_in w → 0 < c.1 → c.1 ≤ left → (read_ue s p ≡ value c.0 (p + c.1)) × (ue_asked s p ≡ c.1)
-  window-found c e a l =
-      let f = code-found w c e a in
+  pub window-found : {v k : ℕ} → Some (v, k) ≡ code_in w → k ≤ left → (read_ue s p ≡ value v (p + k)) × (ue_asked s p ≡ k)
+  window-found e l =
+      let f = code-found w e in
       (window-code (omega (arith, f.bits)) ∙ rw (f.bits, f.is), window-asked (omega (arith, f.bits)) ∙ sym f.bits)
 
 -- ---- a code found by its leading zeros
@@ -248,5 +244,4 @@ table-code {codes} t w f = go (dec_lt 4 z)
         let k : e ≡ (code_of 9 x z - 1) * 16 + (2 * z + 1) = rw (le-ltb 4 z (omega arith)) at (t.entry x (omega arith)) in
         let p : e / 16 ≡ code_of 9 x z - 1 = omega arith in
         let q : e % 16 ≡ 2 * z + 1 = omega arith in
-        let c : ℕ × ℕ = (e / 16, e % 16) in
-        rw (ne_eqb e 0 (λ n. absurd (omega arith))) (code-by-zeros w c (omega arith) (rw (same, v) p) (rw same q))
+        rw (ne_eqb e 0 (λ n. absurd (omega arith))) (code-by-zeros w (omega arith) (rw (same, v) p) (rw same q))

@@ -1,9 +1,7 @@
 -- Escapes (H.266 clauses 7.3.1.1 and 7.4.2.1; document 01, 'One unit' and 'Fields down to bits'), and what the two calls answer and leave. 4; 5.
 -- Both ways go through the bytes once and carry the number z of zero bytes that stand right before.
 use Rattle.std.specs.Prelude.{ℕ, zero, suc, ◌≤◌, Bool, true, false, cond, not, ◌&&◌, List, [], ◌∷◌, ◌++◌, leb, ltb, eqb, length, drop}
-use Rattle.bitstream.specs.Outcome.{Outcome, value, refused, number}
-use Rattle.bitstream.specs.declared.nal.Size.{Size}
-use Rattle.bitstream.specs.declared.nal.Size.TheVariants.{Bytes, Refused}
+use Rattle.bitstream.specs.Outcome.{Outcome, value, refused}
 
 -- the zero bytes at the end of z zero bytes and then b
 abbrev pub zero_run : ℕ → ℕ → ℕ
@@ -49,11 +47,6 @@ zeros_at_end z [] = z
 zeros_at_end z (b ∷ bs) = zeros_at_end (zero_run z b) bs
 
 -- ---- the calls
-
--- the bytes at exit with the number of bytes written
-abbrev pub outcome_size : Size → List ℕ → Outcome (List ℕ)
-outcome_size (Bytes n) after = value after n
-outcome_size (Refused e) after = refused (number e)
 
 -- l at the start of out, the rest kept; 5: out is shorter than l
 unfoldable pub put_bytes : List ℕ → List ℕ → Outcome (List ℕ)

@@ -1,5 +1,5 @@
--- What a call answers: a value with the place after it, or a refusal's number (document 01, 'Refused, and with which number').
-use Rattle.std.specs.Prelude.{ℕ, List}
+-- What a call answers: a value with the place after it, or a refusal's number .
+use Rattle.std.specs.Prelude.{ℕ, List, Result, Ok, Err}
 use Rattle.bitstream.specs.declared.Refusal.{Refusal}
 use Rattle.bitstream.specs.declared.Refusal.TheVariants.{UnexpectedEnd, InvalidData, Unsupported, InputTooLong, OutputTooShort, EmptyPlace}
 
@@ -8,7 +8,7 @@ pub data Outcome (A : Type 0) : Type 0 where
   value : A → ℕ → Outcome A
   refused : ℕ → Outcome A
 
--- document 01's number of each refusal
+-- the number of each refusal
 abbrev pub number : Refusal → ℕ
 number UnexpectedEnd = 1
 number InvalidData = 2
@@ -26,6 +26,11 @@ infixl 20 ◌then◌
 abbrev pub ◌then◌ : {A B : Type 0} → Outcome A → (A → ℕ → Outcome B) → Outcome B
 value a p then f = f a p
 refused e then f = refused e
+
+-- what a call answers that writes bytes: the bytes at exit with the place after what was written
+abbrev pub outcome_written : Result ℕ Refusal → List ℕ → Outcome (List ℕ)
+outcome_written (Ok q) after = value after q
+outcome_written (Err e) after = refused (number e)
 
 -- the bytes left in an output after a write: those at entry where it was refused
 abbrev pub left : List ℕ → Outcome (List ℕ) → List ℕ

@@ -1,5 +1,5 @@
 -- A window: a word of 64 bits whose highest bits are the next bits of an input. A ue at its start, and the table of short ones.
-use Rattle.std.specs.Prelude.{ℕ, ◌+◌, ◌-◌, ◌*◌, ◌/◌, ◌%◌, ◌^◌, ◌≤◌, ◌<◌, ◌≡◌, cond, List, ltb, eqb, length, get_or}
+use Rattle.std.specs.Prelude.{ℕ, ◌+◌, ◌-◌, ◌*◌, ◌/◌, ◌%◌, ◌^◌, ◌≤◌, ◌<◌, ◌≡◌, cond, List, ltb, eqb, length, get_or, Option, Some, None}
 use Rattle.std.specs.Int.Count.{count_leading_zeros}
 use Rattle.bitstream.specs.Bits.{field_at}
 use Rattle.bitstream.specs.declared.window.Code.{Code}
@@ -20,14 +20,15 @@ pub record IsWindow (s : List ℕ) (p left w : ℕ) : Type 0 where
 abbrev pub code_of : ℕ → ℕ → ℕ → ℕ
 code_of n w z = w / 2 ^ (n - 1 - 2 * z)
 
--- its value and its bits, where it has at most 8 zeros; else no bits
-unfoldable pub code_in : ℕ → ℕ × ℕ
+-- its value and its bits, where it has at most 8 zeros
+unfoldable pub code_in : ℕ → Option (ℕ × ℕ)
 code_in w =
-    cond (ltb 8 (count_leading_zeros 64 w)) (0, 0)
-    (code_of 64 w (count_leading_zeros 64 w) - 1, 2 * count_leading_zeros 64 w + 1)
+    cond (ltb 8 (count_leading_zeros 64 w)) None
+    (Some (code_of 64 w (count_leading_zeros 64 w) - 1, 2 * count_leading_zeros 64 w + 1))
 
-abbrev pub found : Code → ℕ × ℕ
-found c = (c.value, c.bits)
+abbrev pub found : Option Code → Option (ℕ × ℕ)
+found (Some c) = Some (c.value, c.bits)
+found None = None
 
 -- ---- the table of short codes
 
@@ -43,5 +44,5 @@ pub record ShortCodes (codes : List ℕ) : Type 0 where
   pub entry : (x : ℕ) → x < 512 → get_or codes x 0 ≡ short_code x
 
 -- what a table says of the ue at the start of a word: a marked one is found by its zeros
-unfoldable pub code_by : List ℕ → ℕ → ℕ × ℕ
-code_by codes w = cond (eqb (get_or codes (w / 2 ^ 55) 0) 0) (code_in w) (get_or codes (w / 2 ^ 55) 0 / 16, get_or codes (w / 2 ^ 55) 0 % 16)
+unfoldable pub code_by : List ℕ → ℕ → Option (ℕ × ℕ)
+code_by codes w = cond (eqb (get_or codes (w / 2 ^ 55) 0) 0) (code_in w) (Some (get_or codes (w / 2 ^ 55) 0 / 16, get_or codes (w / 2 ^ 55) 0 % 16))

@@ -1,15 +1,8 @@
 -- What the field writes into the bytes out at bit p answer and leave (document 01, 'Fields down to bits'). 2; 5; then the field.
 use Rattle.std.specs.Prelude.{ℕ, ◌+◌, ◌*◌, List, [], ◌∷◌, cond, length, ltb, ℤ}
-use Rattle.bitstream.specs.Outcome.{Outcome, value, refused, number}
+use Rattle.bitstream.specs.Outcome.{Outcome, value, refused}
 use Rattle.bitstream.specs.Bits.{field_bits, put_bits}
 use Rattle.bitstream.specs.Fields.{ue_bits, se_code, trailing_bits}
-use Rattle.bitstream.specs.declared.bit_writer.Written.{Written}
-use Rattle.bitstream.specs.declared.bit_writer.Written.TheVariants.{To, Refused}
-
--- the bytes at exit with the bit after the field
-abbrev pub outcome_w : Written → List ℕ → Outcome (List ℕ)
-outcome_w (To q) after = value after q
-outcome_w (Refused e) after = refused (number e)
 
 -- the bits that out must hold: none for a field of width 0
 unfoldable pub due : ℕ → List ℕ → ℕ

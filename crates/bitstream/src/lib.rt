@@ -4,11 +4,12 @@
 pub mod bit_reader;
 pub mod bit_writer;
 pub mod nal;
+mod place;
 pub mod short_codes;
 pub mod window;
 
 ghost use Rattle.std.specs.Prelude.{◌≡◌};
-ghost use Rattle.bitstream.specs.Outcome.{number as number_of};
+ghost use Rattle.bitstream.specs.Outcome.{number};
 
 // The longest input that is taken, in bytes.
 pub const LONGEST_INPUT: usize = 65536;
@@ -16,8 +17,8 @@ pub const LONGEST_INPUT: usize = 65536;
 // The last bit at which a field may start.
 pub const LAST_START: usize = 1048576;
 
-// Why a call refuses: document 01's numbers 1 to 6, in order.
-#[derive(Clone, Copy)]
+// Why a call refuses: the numbers 1 to 6, in order.
+#[derive(Clone, Copy, Debug, PartialEq, Eq)]
 pub enum Refusal {
     UnexpectedEnd,
     InvalidData,
@@ -27,16 +28,18 @@ pub enum Refusal {
     EmptyPlace,
 }
 
-// Document 01's number of a refusal.
-pub fn number(why: Refusal) -> u32
-    ensures { result ≡ number_of why }
-{
-    match why {
-        Refusal::UnexpectedEnd => 1,
-        Refusal::InvalidData => 2,
-        Refusal::Unsupported => 3,
-        Refusal::InputTooLong => 4,
-        Refusal::OutputTooShort => 5,
-        Refusal::EmptyPlace => 6,
+// A refusal's number.
+impl From<Refusal> for u32 {
+    ghost from_gives = { λ why n. n ≡ number why };
+
+    fn from(why: Refusal) -> u32 {
+        match why {
+            Refusal::UnexpectedEnd => 1,
+            Refusal::InvalidData => 2,
+            Refusal::Unsupported => 3,
+            Refusal::InputTooLong => 4,
+            Refusal::OutputTooShort => 5,
+            Refusal::EmptyPlace => 6,
+        }
     }
 }

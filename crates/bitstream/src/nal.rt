@@ -1,16 +1,9 @@
 // Escapes put in and removed, from a slice into a lent slice. After src/nal.rs.
 ghost use Rattle.std.specs.Prelude.{◌≡◌, ◌+◌, ◌≤◌, ◌<◌, ◌&&◌, not, cond, true, ◌++◌, leb, eqb, length, drop, set};
-ghost use Rattle.bitstream.specs.Outcome.{left};
-ghost use Rattle.bitstream.specs.Escapes.{zero_run, kept, escape, unescape, outcome_size, ebsp_to_rbsp, rbsp_to_ebsp};
+ghost use Rattle.bitstream.specs.Outcome.{left, outcome_written};
+ghost use Rattle.bitstream.specs.Escapes.{zero_run, kept, escape, unescape, ebsp_to_rbsp, rbsp_to_ebsp};
 
 use crate::{LONGEST_INPUT, Refusal};
-
-// How many bytes were written.
-#[derive(Clone, Copy)]
-pub enum Size {
-    Bytes(usize),
-    Refused(Refusal),
-}
 
 // The zero bytes at the end: of z zero bytes, unless an 03 was put after them, and then b.
 fn zero_run(put: bool, z: usize, b: u8) -> usize
@@ -28,14 +21,14 @@ fn zero_run(put: bool, z: usize, b: u8) -> usize
 fn stays(z: usize, b: u8) -> bool
     ensures { result ≡ not (leb 2 z && eqb b 3) }
 {
-    if z >= 2 { b != 3 } else { true }
+    z < 2 || b != 3
 }
 
 // A byte at most 03 after 00 00 needs an escape.
 fn needs_escape(z: usize, b: u8) -> bool
     ensures { result ≡ (leb 2 z && leb b 3) }
 {
-    if z >= 2 { b <= 3 } else { false }
+    z >= 2 && b <= 3
 }
 
 // One more where `yes`.
@@ -58,19 +51,16 @@ fn put_if(out: &mut [u8], o: usize, yes: bool, b: u8) -> usize
     o
 }
 
-// The length with escapes removed.
+// The length with escapes removed. An iterator of these bytes, for this and the write, would carry the same variables and be longer.
 fn unescaped_len(src: &[u8]) -> usize
     requires { length src.now ≤ 65536 }
     ensures { result ≡ length (unescape src.now) }
 {
-    let mut i = 0;
     let mut z = 0;
     let mut n = 0;
-    while i < src.len() {
-        let b = src[i];
+    for &b in src {
         n = count_if(n, stays(z, b));
         z = zero_run(false, z, b);
-        i += 1;
     }
     n
 }
@@ -81,32 +71,26 @@ fn unescape_into(src: &[u8], out: &mut [u8]) -> usize
     ensures { (result ≡ length (unescape src.now))
         × (out.new ≡ unescape src.now ++ drop (length (unescape src.now)) out.old) }
 {
-    let mut i = 0;
     let mut z = 0;
     let mut o = 0;
-    while i < src.len() {
-        let b = src[i];
+    for &b in src {
         o = put_if(out, o, stays(z, b), b);
         z = zero_run(false, z, b);
-        i += 1;
     }
     o
 }
 
-// The length with escapes put in.
+// The length with escapes put in, beside the write as above.
 fn escaped_len(src: &[u8]) -> usize
     requires { length src.now ≤ 65536 }
     ensures { result ≡ length (escape src.now) }
 {
-    let mut i = 0;
     let mut z = 0;
     let mut n = 0;
-    while i < src.len() {
-        let b = src[i];
+    for &b in src {
         let put = needs_escape(z, b);
         n = count_if(n, put) + 1;
         z = zero_run(put, z, b);
-        i += 1;
     }
     count_if(n, z >= 2)
 }
@@ -117,16 +101,13 @@ fn escape_into(src: &[u8], out: &mut [u8]) -> usize
     ensures { (result ≡ length (escape src.now))
         × (out.new ≡ escape src.now ++ drop (length (escape src.now)) out.old) }
 {
-    let mut i = 0;
     let mut z = 0;
     let mut o = 0;
-    while i < src.len() {
-        let b = src[i];
+    for &b in src {
         let put = needs_escape(z, b);
         o = put_if(out, o, put, 3);
         o = put_if(out, o, true, b);
         z = zero_run(put, z, b);
-        i += 1;
     }
     put_if(out, o, z >= 2, 3)
 }
@@ -154,29 +135,29 @@ fn escaped_fits(src: &[u8], room: usize) -> bool
 }
 
 // The bytes of src with escapes removed, clause 7.3.1.1.
-pub fn ebsp_to_rbsp(src: &[u8], out: &mut [u8]) -> Size
-    ensures answer { outcome_size result out.new ≡ ebsp_to_rbsp src.now out.old }
+pub fn ebsp_to_rbsp(src: &[u8], out: &mut [u8]) -> Result<usize, Refusal>
+    ensures answer { outcome_written result out.new ≡ ebsp_to_rbsp src.now out.old }
     ensures bytes { out.new ≡ left out.old (ebsp_to_rbsp src.now out.old) }
 {
     if LONGEST_INPUT < src.len() {
-        return Size::Refused(Refusal::InputTooLong);
+        return Err(Refusal::InputTooLong);
     }
     if !unescaped_fits(src, out.len()) {
-        return Size::Refused(Refusal::OutputTooShort);
+        return Err(Refusal::OutputTooShort);
     }
-    Size::Bytes(unescape_into(src, out))
+    Ok(unescape_into(src, out))
 }
 
 // The bytes of src with escapes put in, clause 7.4.2.1.
-pub fn rbsp_to_ebsp(src: &[u8], out: &mut [u8]) -> Size
-    ensures answer { outcome_size result out.new ≡ rbsp_to_ebsp src.now out.old }
+pub fn rbsp_to_ebsp(src: &[u8], out: &mut [u8]) -> Result<usize, Refusal>
+    ensures answer { outcome_written result out.new ≡ rbsp_to_ebsp src.now out.old }
     ensures bytes { out.new ≡ left out.old (rbsp_to_ebsp src.now out.old) }
 {
     if LONGEST_INPUT < src.len() {
-        return Size::Refused(Refusal::InputTooLong);
+        return Err(Refusal::InputTooLong);
     }
     if !escaped_fits(src, out.len()) {
-        return Size::Refused(Refusal::OutputTooShort);
+        return Err(Refusal::OutputTooShort);
     }
-    Size::Bytes(escape_into(src, out))
+    Ok(escape_into(src, out))
 }

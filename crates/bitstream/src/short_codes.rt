@@ -1,10 +1,10 @@
 // Codes of at most nine bits by a table.
 ghost use Rattle.std.specs.Prelude.{◌≡◌};
-ghost use Rattle.bitstream.specs.Windows.{ShortCodes, code_by, found};
+ghost use Rattle.bitstream.specs.Windows.{ShortCodes, code_by, code_in, found};
 
 use crate::window::{Code, code_in};
 
-// For each value of the next nine bits 16 times the value of the ue that they begin with, and its bits; 0 where it is longer.
+// 1 KB: entries of Option<Code> would be 12 KB, made anew for each set. For each value of the next nine bits 16 times the value of the ue that they begin with, and its bits; 0 where it is longer.
 pub const SHORT_CODES: [u16; 512] = [
     0, 0, 0, 0, 0, 0, 0, 0, 0, 0, 0, 0, 0, 0, 0, 0, 249, 265, 281, 297, 313, 329, 345, 361, 377,
     393, 409, 425, 441, 457, 473, 489, 119, 119, 119, 119, 135, 135, 135, 135, 151, 151, 151, 151,
@@ -28,7 +28,29 @@ pub const SHORT_CODES: [u16; 512] = [
     1, 1, 1, 1, 1, 1, 1, 1,
 ];
 
-// The table with its rule: a constant is made anew at each use, so it is asked for once and lent.
+// The table, which keeps its rule: a constant is made anew at each use, so it is made once and lent.
+#[derive(Clone, Copy)]
+pub struct CodeTable {
+    entries: [u16; 512],
+    ghost rule: { ShortCodes entries },
+}
+
+impl CodeTable {
+    pub fn new() -> Self {
+        CodeTable {
+            entries: short_codes(),
+        }
+    }
+
+    // The ue at the start of a word, if it has at most 8 zeros.
+    pub fn code(&self, w: u64) -> Option<Code>
+        ensures { found result ≡ code_in w }
+    {
+        code_by_table(&self.entries, w)
+    }
+}
+
+// The table with its rule.
 pub fn short_codes() -> [u16; 512]
     ensures { ShortCodes result }
 {
@@ -36,16 +58,15 @@ pub fn short_codes() -> [u16; 512]
 }
 
 // What a table says of the ue at the start of a word; a marked one is found by its zeros.
-pub fn code_by_table(codes: &[u16; 512], w: u64) -> Code
+pub fn code_by_table(codes: &[u16; 512], w: u64) -> Option<Code>
     ensures { found result ≡ code_by codes.now w }
 {
-    let entries: &[u16] = codes;
-    let e = entries[(w >> 55) as usize];
+    let e = codes[(w >> 55) as usize];
     if e == 0 {
         return code_in(w);
     }
-    Code {
+    Some(Code {
         value: (e / 16) as u32,
         bits: e as u64 % 16,
-    }
+    })
 }

@@ -3,15 +3,13 @@ ghost use Rattle.std.specs.Prelude.{◌≡◌, ◌+◌, ◌*◌, ◌≤◌, ◌<
 ghost use Rattle.bitstream.specs.Bits.{field_at};
 ghost use Rattle.bitstream.specs.Windows.{window_at, code_in, found};
 
-use crate::bit_reader::{byte, byte_or_zero};
-
 // The four bytes from byte i on, as one number.
 fn four(bytes: &[u8], i: usize) -> u64
     requires { i + 4 ≤ length bytes.now }
     ensures { (result ≡ field_at bytes.now (i * 8) 32) × (result < 4294967296) }
 {
-    ((byte(bytes, i) * 256 + byte(bytes, i + 1)) * 256 + byte(bytes, i + 2)) * 256
-        + byte(bytes, i + 3)
+    ((bytes[i] as u64 * 256 + bytes[i + 1] as u64) * 256 + bytes[i + 2] as u64) * 256
+        + bytes[i + 3] as u64
 }
 
 // The eight bytes from byte i on: in this form one load.
@@ -20,23 +18,6 @@ fn eight(bytes: &[u8], i: usize) -> u64
     ensures { result ≡ field_at bytes.now (i * 8) 64 }
 {
     four(bytes, i) * 4294967296 + four(bytes, i + 4)
-}
-
-// The same, zeros past the end.
-fn last_four(bytes: &[u8], i: usize) -> u64
-    requires { i ≤ 2305843009213693960 }
-    ensures { (result ≡ field_at bytes.now (i * 8) 32) × (result < 4294967296) }
-{
-    ((byte_or_zero(bytes, i) * 256 + byte_or_zero(bytes, i + 1)) * 256 + byte_or_zero(bytes, i + 2))
-        * 256
-        + byte_or_zero(bytes, i + 3)
-}
-
-fn last_eight(bytes: &[u8], i: usize) -> u64
-    requires { i < 2305843009213693952 }
-    ensures { result ≡ field_at bytes.now (i * 8) 64 }
-{
-    last_four(bytes, i) * 4294967296 + last_four(bytes, i + 4)
 }
 
 // The 64 - p % 8 bits from bit p on, zeros past the end, as the highest of a word whose rest is 0.
@@ -50,7 +31,7 @@ pub fn window(bytes: &[u8], p: usize) -> u64
     window_alone(bytes, p)
 }
 
-// The same, and a call, so that `window` is small enough to stand in a loop. Near the end it is the last eight bytes, moved up.
+// The same, and a call, so that `window` is small enough to stand in a loop: one body for both was slower. Near the end it is the last eight bytes, moved up.
 pub fn window_alone(bytes: &[u8], p: usize) -> u64
     ensures { result ≡ window_at bytes.now p }
 {
@@ -66,26 +47,28 @@ pub fn window_alone(bytes: &[u8], p: usize) -> u64
         let from = n - 8;
         return eight(bytes, from) << (p - from * 8) as u64;
     }
-    last_eight(bytes, i) << (p % 8) as u64
+    let mut padded = [0u8; 8];
+    padded[..n].copy_from_slice(bytes);
+    eight(&padded, 0) << p as u64
 }
 
-// A ue at the start of a word: its value and its bits, or no bits.
-#[derive(Clone, Copy)]
+// A ue at the start of a word: its value and its bits.
+#[derive(Clone, Copy, Debug, PartialEq, Eq)]
 pub struct Code {
     pub value: u32,
     pub bits: u64,
 }
 
 // One of at most 8 zeros, by its leading zeros.
-pub fn code_in(w: u64) -> Code
+pub fn code_in(w: u64) -> Option<Code>
     ensures { found result ≡ code_in w }
 {
-    let z = u64::leading_zeros(w) as u64;
+    let z = w.leading_zeros() as u64;
     if 8 < z {
-        return Code { value: 0, bits: 0 };
+        return None;
     }
-    Code {
+    Some(Code {
         value: (w >> (63 - 2 * z)) as u32 - 1,
         bits: 2 * z + 1,
-    }
+    })
 }

@@ -2,86 +2,71 @@
 #![tactic(auto)]
 
 ghost use Rattle.std.specs.Prelude.{◌≡◌, List, ℕ};
-ghost use Rattle.bitstream.specs.Outcome.{left};
-ghost use Rattle.bitstream.specs.Reading.{outcome_u, outcome_s, outcome_t, u_at, u_lacking, ue_at, ue_lacking, se_at, se_lacking, trailing_at};
-ghost use Rattle.bitstream.specs.Writing.{outcome_w, write_bits_at, write_ue_at, write_se_at, write_trailing_at};
-ghost use Rattle.bitstream.specs.Escapes.{outcome_size, ebsp_to_rbsp, rbsp_to_ebsp};
+ghost use Rattle.bitstream.specs.Outcome.{left, outcome_written};
+ghost use Rattle.bitstream.specs.Reading.{outcome_field, is_lacking, outcome_aligned, u_at, u_lacking, ue_at, ue_lacking, se_at, se_lacking, trailing_at};
+ghost use Rattle.bitstream.specs.Writing.{write_bits_at, write_ue_at, write_se_at, write_trailing_at};
+ghost use Rattle.bitstream.specs.Escapes.{ebsp_to_rbsp, rbsp_to_ebsp};
 ghost use Rattle.bitstream_c.specs.Codes.{code, answered, answered_signed, placed, PlaceFits};
 
-use bitstream::bit_reader::{BitReader, FieldS, FieldU, ReadS, ReadU, Trailing};
-use bitstream::bit_writer::Written;
-use bitstream::nal::Size;
-use bitstream::{bit_writer, nal, number};
+use bitstream::bit_reader::{BitReader, Field};
+use bitstream::{Refusal, bit_writer, nal};
 
-fn unsigned(read: ReadU, answer: &mut [u64; 3]) -> u32
-    ensures code { result ≡ code (outcome_u read.field) }
-    ensures answer { answer.new ≡ answered (outcome_u read.field) read.lacking answer.old }
+fn unsigned(read: Result<Field<u32>, Refusal>, answer: &mut [u64; 3]) -> u32
+    ensures code { result ≡ code (outcome_field read) }
+    ensures answer { answer.new ≡ answered (outcome_field read) (is_lacking read) answer.old }
 {
-    let f = read.field;
-    match f {
-        FieldU::Value(v, r) => {
-            answer[0] = v as u64;
-            answer[1] = r.bit_pos as u64;
-            answer[2] = read.lacking as u64;
+    match read {
+        Ok(field) => {
+            answer[0] = field.value as u64;
+            answer[1] = field.next.bit_pos as u64;
+            answer[2] = field.lacking as u64;
             0
         }
-        FieldU::Refused(e) => number(e),
+        Err(why) => why.into(),
     }
 }
 
-fn signed(read: ReadS, answer: &mut [i64; 3]) -> u32
-    requires { PlaceFits (outcome_s read.field) }
-    ensures code { result ≡ code (outcome_s read.field) }
-    ensures answer { answer.new ≡ answered_signed (outcome_s read.field) read.lacking answer.old }
+// The same of a signed field, whose place is one that an i64 holds: C lends an array of i64 here.
+fn signed(read: Result<Field<i32>, Refusal>, answer: &mut [i64; 3]) -> u32
+    requires { PlaceFits (outcome_field read) }
+    ensures code { result ≡ code (outcome_field read) }
+    ensures answer { answer.new ≡ answered_signed (outcome_field read) (is_lacking read) answer.old }
 {
-    let f = read.field;
-    match f {
-        FieldS::Value(v, r) => {
-            answer[0] = v as i64;
-            answer[1] = r.bit_pos as i64;
-            answer[2] = read.lacking as i64;
+    match read {
+        Ok(field) => {
+            answer[0] = field.value as i64;
+            answer[1] = field.next.bit_pos as i64;
+            answer[2] = field.lacking as i64;
             0
         }
-        FieldS::Refused(e) => number(e),
+        Err(why) => why.into(),
     }
 }
 
-fn aligned(t: Trailing, answer: &mut [u64; 1]) -> u32
-    ensures code { result ≡ code (outcome_t t) }
-    ensures answer { answer.new ≡ placed (outcome_t t) answer.old }
+fn aligned(read: Result<BitReader, Refusal>, answer: &mut [u64; 1]) -> u32
+    ensures code { result ≡ code (outcome_aligned read) }
+    ensures answer { answer.new ≡ placed (outcome_aligned read) answer.old }
 {
-    match t {
-        Trailing::Aligned(r) => {
-            answer[0] = r.bit_pos as u64;
+    match read {
+        Ok(after) => {
+            answer[0] = after.bit_pos as u64;
             0
         }
-        Trailing::Refused(e) => number(e),
+        Err(why) => why.into(),
     }
 }
 
-fn written(w: Written, answer: &mut [u64; 1]) -> u32
-    ensures code { (out : List ℕ) → result ≡ code (outcome_w w out) }
-    ensures answer { (out : List ℕ) → answer.new ≡ placed (outcome_w w out) answer.old }
+// The place after what was written.
+fn written(place: Result<usize, Refusal>, answer: &mut [u64; 1]) -> u32
+    ensures code { (out : List ℕ) → result ≡ code (outcome_written place out) }
+    ensures answer { (out : List ℕ) → answer.new ≡ placed (outcome_written place out) answer.old }
 {
-    match w {
-        Written::To(q) => {
-            answer[0] = q as u64;
+    match place {
+        Ok(after) => {
+            answer[0] = after as u64;
             0
         }
-        Written::Refused(e) => number(e),
-    }
-}
-
-fn sized(s: Size, answer: &mut [u64; 1]) -> u32
-    ensures code { (out : List ℕ) → result ≡ code (outcome_size s out) }
-    ensures answer { (out : List ℕ) → answer.new ≡ placed (outcome_size s out) answer.old }
-{
-    match s {
-        Size::Bytes(n) => {
-            answer[0] = n as u64;
-            0
-        }
-        Size::Refused(e) => number(e),
+        Err(why) => why.into(),
     }
 }
 
@@ -199,7 +184,7 @@ pub extern "C" fn bitstream_ebsp_to_rbsp(src: &[u8], out: &mut [u8], answer: &mu
     ensures answer { answer.new ≡ placed (ebsp_to_rbsp src.now out.old) answer.old }
     ensures bytes { out.new ≡ left out.old (ebsp_to_rbsp src.now out.old) }
 {
-    sized(nal::ebsp_to_rbsp(src, out), answer)
+    written(nal::ebsp_to_rbsp(src, out), answer)
 }
 
 #[unsafe(no_mangle)]
@@ -208,5 +193,5 @@ pub extern "C" fn bitstream_rbsp_to_ebsp(src: &[u8], out: &mut [u8], answer: &mu
     ensures answer { answer.new ≡ placed (rbsp_to_ebsp src.now out.old) answer.old }
     ensures bytes { out.new ≡ left out.old (rbsp_to_ebsp src.now out.old) }
 {
-    sized(nal::rbsp_to_ebsp(src, out), answer)
+    written(nal::rbsp_to_ebsp(src, out), answer)
 }

@@ -2,31 +2,30 @@
 ghost use Rattle.std.specs.Prelude.{◌≤◌, length};
 
 use crate::print;
-use bitstream::nal;
-use bitstream::nal::Size;
+use bitstream::{Refusal, nal};
 
 // What was written, and nothing of the rest.
-fn written(r: Size, out: &[u8]) {
+fn written(r: Result<usize, Refusal>, out: &[u8]) {
     match r {
-        Size::Bytes(n) => {
+        Ok(n) => {
             print::text(b" ");
             print::number(n as u64);
             print::text(b":");
             print::first(out, n);
         }
-        Size::Refused(e) => print::refused(e),
+        Err(e) => print::refused(e),
     }
     print::end_line();
 }
 
 // The whole output.
-fn answer(r: Size, out: &[u8]) {
+fn answer(r: Result<usize, Refusal>, out: &[u8]) {
     match r {
-        Size::Bytes(n) => {
+        Ok(n) => {
             print::text(b" ");
             print::number(n as u64);
         }
-        Size::Refused(e) => print::refused(e),
+        Err(e) => print::refused(e),
     }
     print::text(b":");
     print::bytes(out);
@@ -48,7 +47,7 @@ fn asked(way: Way, src: &[u8]) {
     print::bytes(src);
 }
 
-fn answered(way: Way, src: &[u8], out: &mut [u8]) -> Size {
+fn answered(way: Way, src: &[u8], out: &mut [u8]) -> Result<usize, Refusal> {
     match way {
         Way::Escape => nal::rbsp_to_ebsp(src, out),
         Way::Unescape => nal::ebsp_to_rbsp(src, out),

@@ -1,7 +1,7 @@
 // Words, numbers and bytes to standard output.
 ghost use Rattle.std.specs.Prelude.{◌<◌};
 
-use bitstream::{Refusal, number as refusal_number};
+use bitstream::Refusal;
 
 pub fn text(s: &[u8]) {
     io::write_all(1, s);
@@ -65,7 +65,7 @@ pub fn bytes(s: &[u8]) {
 
 pub fn refused(e: Refusal) {
     text(b" refused ");
-    number(refusal_number(e) as u64);
+    number(u32::from(e) as u64);
 }
 
 // The bit after a field.

@@ -1,6 +1,7 @@
 // Reads of fields, and of what was written.
 use crate::print;
-use bitstream::bit_reader::{BitReader, FieldS, FieldU, ReadS, ReadU, Trailing};
+use bitstream::Refusal;
+use bitstream::bit_reader::{BitReader, Field};
 
 fn of(at: usize, bytes: &[u8]) {
     print::text(b" at ");
@@ -10,40 +11,40 @@ fn of(at: usize, bytes: &[u8]) {
     print::text(b" ->");
 }
 
-fn unsigned(read: ReadU) {
-    let f = read.field;
-    match f {
-        FieldU::Value(v, r) => {
+fn unsigned(read: Result<Field<u32>, Refusal>) {
+    match read {
+        Ok(field) => {
             print::text(b" ");
-            print::number(v as u64);
-            print::text(b",");
-            print::bit(r.bit_pos);
+            print::number(field.value as u64);
+            after(field.next, field.lacking);
         }
-        FieldU::Refused(e) => print::refused(e),
+        Err(why) => print::refused(why),
     }
-    print::lacking(read.lacking);
     print::end_line();
 }
 
-fn signed(read: ReadS) {
-    let f = read.field;
-    match f {
-        FieldS::Value(v, r) => {
+fn signed(read: Result<Field<i32>, Refusal>) {
+    match read {
+        Ok(field) => {
             print::text(b" ");
-            print::signed(v);
-            print::text(b",");
-            print::bit(r.bit_pos);
+            print::signed(field.value);
+            after(field.next, field.lacking);
         }
-        FieldS::Refused(e) => print::refused(e),
+        Err(why) => print::refused(why),
     }
-    print::lacking(read.lacking);
     print::end_line();
 }
 
-fn aligned(t: Trailing) {
-    match t {
-        Trailing::Aligned(r) => print::bit(r.bit_pos),
-        Trailing::Refused(e) => print::refused(e),
+fn after(next: BitReader, lacking: bool) {
+    print::text(b",");
+    print::bit(next.bit_pos);
+    print::lacking(lacking);
+}
+
+fn aligned(read: Result<BitReader, Refusal>) {
+    match read {
+        Ok(next) => print::bit(next.bit_pos),
+        Err(why) => print::refused(why),
     }
     print::end_line();
 }

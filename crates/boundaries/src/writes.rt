@@ -2,8 +2,7 @@
 ghost use Rattle.std.specs.Prelude.{◌≤◌, length};
 
 use crate::{print, reads};
-use bitstream::bit_writer;
-use bitstream::bit_writer::Written;
+use bitstream::{Refusal, bit_writer};
 
 fn into(at: usize, out: &[u8]) {
     print::text(b" at ");
@@ -13,10 +12,10 @@ fn into(at: usize, out: &[u8]) {
     print::text(b" ->");
 }
 
-fn answer(w: Written, out: &[u8]) {
+fn answer(w: Result<usize, Refusal>, out: &[u8]) {
     match w {
-        Written::To(q) => print::bit(q),
-        Written::Refused(e) => print::refused(e),
+        Ok(q) => print::bit(q),
+        Err(e) => print::refused(e),
     }
     print::text(b":");
     print::bytes(out);
@@ -53,7 +52,7 @@ fn asked(f: Field) {
     }
 }
 
-fn written(out: &mut [u8], at: usize, f: Field) -> Written {
+fn written(out: &mut [u8], at: usize, f: Field) -> Result<usize, Refusal> {
     match f {
         Field::Bits(v, n) => bit_writer::write_bits(out, at, v, n),
         Field::Ue(v) => bit_writer::write_ue(out, at, v),

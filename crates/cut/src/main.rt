@@ -3,25 +3,24 @@
 
 use aps_table::list::{LIST_BYTES, write_list};
 use aps_table::places::new_table;
-use aps_table::table::{StreamAnswer, take_stream};
-use bitstream::nal::Size;
-use bitstream::{Refusal, number};
+use aps_table::table::take_stream;
+use bitstream::Refusal;
 
 fn refused(why: Refusal) {
     io::write_all(2, b"refused ");
-    io::print_decimal(2, number(why) as u64);
+    io::print_decimal(2, u32::from(why) as u64);
     io::write_all(2, b"\n");
 }
 
 // The bytes that an answer counts.
-fn put(size: Size, out: &[u8]) {
+fn put(size: Result<usize, Refusal>, out: &[u8]) {
     match size {
-        Size::Bytes(n) => {
+        Ok(n) => {
             if n <= out.len() {
                 io::write_all(1, &out[..n]);
             }
         }
-        Size::Refused(why) => refused(why),
+        Err(why) => refused(why),
     }
 }
 
@@ -33,10 +32,10 @@ fn main() {
     let mut table = new_table();
     let mut out = [0u8; LIST_BYTES];
     match take_stream(&mut table, &input[..n], &mut work) {
-        StreamAnswer::Counted(_) => {
+        Ok(_) => {
             let size = write_list(&table, &mut out);
             put(size, &out);
         }
-        StreamAnswer::Refused(why) => refused(why),
+        Err(why) => refused(why),
     }
 }

@@ -14,4 +14,4 @@ pub returns-in-Refused : goal.returns-in-Refused
 returns-in-Refused c =
     let a = c.args in
     let o = ap (λ x. outcome_read x a.reading.set) c.in-Refused.is in
-    record { code = c.number.ensures ∙ code-refused o; set = numbers-refused a.set.now o; end = place-refused a.end.now o }
+    record { code = c.into.ensures ∙ code-refused o; set = numbers-refused a.set.now o; end = place-refused a.end.now o }

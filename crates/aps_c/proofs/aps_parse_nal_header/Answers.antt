@@ -14,4 +14,4 @@ pub returns-in-Refused : goal.returns-in-Refused
 returns-in-Refused c =
     let a = c.args in
     let o = sym c.parse_nal_header.ensures ∙ ap outcome_h c.in-Refused.is in
-    record { code = c.number.ensures ∙ code-refused o; header = header_refused a.header.now o }
+    record { code = c.into.ensures ∙ code-refused o; header = header_refused a.header.now o }

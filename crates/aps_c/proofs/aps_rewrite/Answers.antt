@@ -17,4 +17,4 @@ returns-in-Refused c =
     let a = c.args in
     let r = c.parse_aps_rbsp-reading in
     let o = sym r.ensures.answer ∙ ap (λ x. outcome_read x r.result.set) c.in-Refused.is in
-    let r = refuses a.out.now a.len.now (no_read a.bytes.now a.out.now o) c.number.ensures in record { code = r.0; out = r.1.0; len = r.1.1 }
+    let r = refuses a.out.now a.len.now (no_read a.bytes.now a.out.now o) c.into.ensures in record { code = r.0; out = r.1.0; len = r.1.1 }

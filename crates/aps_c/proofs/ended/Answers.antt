@@ -12,4 +12,4 @@ returns-in-Read c =
 pub returns-in-Refused : goal.returns-in-Refused
 returns-in-Refused c =
     let n = c.args.end.now in
-    record { code = λ a. c.number.ensures ∙ code-refused (ap (λ x. outcome_read x a) c.in-Refused.is); end = λ a. place-refused n (ap (λ x. outcome_read x a) c.in-Refused.is) }
+    record { code = λ a. c.into.ensures ∙ code-refused (ap (λ x. outcome_read x a) c.in-Refused.is); end = λ a. place-refused n (ap (λ x. outcome_read x a) c.in-Refused.is) }

@@ -4,28 +4,28 @@ use borrow.Author.Rules.{rules}
 use mir.Syntax.{w32, w64}
 use mir.Val.{SFits}
 use mir.Facts.{to_z-of_z, to_z_pos}
-use Rattle.bitstream.specs.Reading.{outcome_s}
+use Rattle.bitstream.specs.Reading.{outcome_field, is_lacking}
 use Rattle.bitstream.proofs.Signed.{wide, wide_is}
 use Rattle.bitstream_c.proofs.CodeLaws.{code-value, code-refused, signed-value, signed-refused, place-fits}
 use Rattle.bitstream_c.proofs.signed.Goals as goal
 
 pub overflow_cast-answer : goal.overflow_cast-answer
 overflow_cast-answer c =
-    let f : SFits w32 c.in-Value.v = search rules in
+    let f : SFits w32 c.in-Ok.field.value = search rules in
     rw (to_z-of_z f) (wide _ f)
 
-pub overflow_cast-answer-in-Value : goal.overflow_cast-answer-in-Value
-overflow_cast-answer-in-Value c = record { sfits = place-fits c.requires (ap outcome_s c.in-Value.is) }
+pub overflow_cast-answer-in-Ok : goal.overflow_cast-answer-in-Ok
+overflow_cast-answer-in-Ok c = record { sfits = place-fits c.requires (ap outcome_field c.in-Ok.is) }
 
-pub returns-in-Value : goal.returns-in-Value
-returns-in-Value c =
-    let o = ap outcome_s c.in-Value.is in
-    let f : SFits w32 c.in-Value.v = search rules in
-    let v = wide_is c.in-Value.v f in
+pub returns-in-Ok : goal.returns-in-Ok
+returns-in-Ok c =
+    let o = ap outcome_field c.in-Ok.is in
+    let f : SFits w32 c.in-Ok.field.value = search rules in
+    let v = wide_is c.in-Ok.field.value f in
     let p = to_z_pos w64 (place-fits c.requires o) in
-    record { code = code-value o; answer = rw (v, p) (signed-value c.args.read.lacking _ o) }
+    record { code = code-value o; answer = rw (v, p, ← ap is_lacking c.in-Ok.is) (signed-value (is_lacking c.args.read) _ o) }
 
-pub returns-in-Refused : goal.returns-in-Refused
-returns-in-Refused c =
-    let o = ap outcome_s c.in-Refused.is in
-    record { code = c.number.ensures ∙ code-refused o; answer = signed-refused _ _ o }
+pub returns-in-Err : goal.returns-in-Err
+returns-in-Err c =
+    let o = ap outcome_field c.in-Err.is in
+    record { code = c.into.ensures ∙ code-refused o; answer = signed-refused _ _ o }

@@ -22,7 +22,6 @@ read_alternative-requires c =
       part-blank o.abs (6 * o.row) 6 _ 0 R.rest-abs (omega arith),
       part-blank o.sign (6 * o.row) 6 _ false R.rest-sign (omega arith),
       part-blank o.clips (6 * o.row) 6 _ 0 R.rest-clips (omega arith),
-      c.requires.4,
     )
 
 pub returns-in_err-read_alternative-clause-field : goal.returns-in_err-read_alternative-clause-field

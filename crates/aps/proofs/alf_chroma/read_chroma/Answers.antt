@@ -7,7 +7,7 @@ use Rattle.aps.proofs.ReaderLaws.{reads-▷, reads-▷-first, reads-most, fills-
 use Rattle.aps.proofs.alf_chroma.read_chroma.Goals as goal
 
 pub returns-then-not-signal : goal.returns-then-not-signal
-returns-then-not-signal c = chroma-unsent c.if-not-signal.true c.requires.0
+returns-then-not-signal c = chroma-unsent c.if-not-signal.true c.requires
 
 pub returns-in_err-clip : goal.returns-in_err-clip
 unfolding chroma_syntax
@@ -20,7 +20,7 @@ returns-in_err-count_minus1 c =
     (chroma-sent c.if-not-signal.false (reads-▷ _ c.in_ok-clip.ensures (reads-▷-first _ c.in_err-count_minus1.ensures)))
 
 pub read_alternatives-requires : goal.read_alternatives-requires
-read_alternatives-requires c = let (a, s, k) = blank-chroma c.requires.0 in (reads-most 7 c.in_ok-count_minus1.ensures, a, s, k, c.requires.1)
+read_alternatives-requires c = let (a, s, k) = blank-chroma c.requires in (reads-most 7 c.in_ok-count_minus1.ensures, a, s, k)
 
 pub returns-in_err-read_alternatives : goal.returns-in_err-read_alternatives
 unfolding chroma_syntax

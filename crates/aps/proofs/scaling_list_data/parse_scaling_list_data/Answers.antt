@@ -7,7 +7,7 @@ pub loop-id-init : goal.loop-id-init
 loop-id-init c = storing-start _ c.requires
 
 pub read_id-requires : goal.read_id-requires
-read_id-requires c = (c.loop-id-test.true, storing-blank _ c.loop-id.invariant c.loop-id-test.true, c.short_codes-codes.ensures)
+read_id-requires c = (c.loop-id-test.true, storing-blank _ c.loop-id.invariant c.loop-id-test.true)
 
 pub returns-in_err-read_id : goal.returns-in_err-read_id
 returns-in_err-read_id c =

@@ -98,7 +98,7 @@ read_sums-requires c =
     let e : 64 * c.args.id + c.matrix_entries.result - 64 * c.args.id ≡ c.matrix_entries.result = omega arith in
     let n : length c.args.d.now.scaling_list ≡ 1792 = search rules in
     let f : to_z w32 (of_z w32 c.in_ok-dc.dc) ≡ c.in_ok-dc.dc = search (rules, to_z-of_z') in
-    (rw e (length-take-le _ _ (omega (arith, length-drop (64 * c.args.id) c.args.d.now.scaling_list, n, c.requires.0, c.matrix_entries.ensures, entries-le c.args.id)) ∙ c.matrix_entries.ensures), rw f (given Small (sym c.in_ok-dc.ensures.field) (dc-small c.args.id _ _)), c.requires.2)
+    (rw e (length-take-le _ _ (omega (arith, length-drop (64 * c.args.id) c.args.d.now.scaling_list, n, c.requires.0, c.matrix_entries.ensures, entries-le c.args.id)) ∙ c.matrix_entries.ensures), rw f (given Small (sym c.in_ok-dc.ensures.field) (dc-small c.args.id _ _)))
 
 pub returns-in_err-read_sums : goal.returns-in_err-read_sums
 unfolding entry_syntax coefficients

@@ -21,7 +21,7 @@ loop-i-init c = rw (dc-is (goal.at.loop-i-init c).Start) (summing-start _ _ _ re
 pub read_step-requires : goal.read_step-requires
 read_step-requires c =
     let n = entries-le c.args.id in
-    (omega (arith, n, c.requires.0), omega (arith, n, c.requires.0, c.loop-i.invariant.small), c.requires.2)
+    (omega (arith, n, c.requires.0), omega (arith, n, c.requires.0, c.loop-i.invariant.small))
 
 pub returns-in_err-sum : goal.returns-in_err-sum
 returns-in_err-sum c =

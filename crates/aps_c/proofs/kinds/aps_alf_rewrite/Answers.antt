@@ -32,4 +32,4 @@ returns-in-Refused c =
     let r = c.parse_alf_rbsp-reading in
     let a = set_given (parse_aps_rbsp b.bytes.now) in
     let o = sym r.ensures.answer ∙ ap (λ x. outcome_read x a) c.in-Refused.is in
-    let r = refuses b.out.now b.len.now (no_kind ApsKind.Alf b.bytes.now b.out.now o) c.number.ensures in record { code = r.0; out = r.1.0; len = r.1.1 }
+    let r = refuses b.out.now b.len.now (no_kind ApsKind.Alf b.bytes.now b.out.now o) c.into.ensures in record { code = r.0; out = r.1.0; len = r.1.1 }

@@ -1,19 +1,10 @@
 -- `put_lmcs`: the numbers of its parts, one part after another.
 use native.Mathlib.Omega.{arith}
-use Rattle.aps_c.specs.Numbers.{lmcs_numbers}
-use Rattle.aps_c.proofs.PutLaws.{put_then}
+use Rattle.aps_c.specs.Numbers.{naturals, flags, lmcs_numbers}
+use Rattle.aps_c.proofs.PutLaws.{put_then, flag-byte}
 use Rattle.aps_c.proofs.numbers.put_lmcs.Goals as goal
 
-pub put_u32-sign_at-requires : goal.put_u32-sign_at-requires
-put_u32-sign_at-requires c = omega arith
-
-pub put_bool-crs_at-requires : goal.put_bool-crs_at-requires
-put_bool-crs_at-requires c = omega arith
-
-pub put_u32-requires : goal.put_u32-requires
-put_u32-requires c = omega arith
-
 pub returns : goal.returns
-unfolding lmcs_numbers
+unfolding lmcs_numbers naturals flags
 returns c =
-    (put_then (put_then (put_then c.put_u32-abs_at.ensures.0 c.put_u32-sign_at.ensures.0) c.put_bool-crs_at.ensures.0) (rw c.flag_number.ensures at c.put_u32.ensures.0), omega arith)
+    (put_then (put_then (put_then c.put-abs_at.ensures.0 c.put-sign_at.ensures.0) c.put-crs_at.ensures.0) (rw (c.from.ensures, flag-byte c.args.d.now.lmcs_delta_sign_crs_flag) at c.put.ensures.0), omega arith)

@@ -1,23 +1,10 @@
 -- `put_luma`: the numbers of its parts, one part after another.
 use native.Mathlib.Omega.{arith}
-use Rattle.aps_c.specs.Numbers.{luma_numbers}
-use Rattle.aps_c.proofs.PutLaws.{put_then}
+use Rattle.aps_c.specs.Numbers.{naturals, flags, luma_numbers}
+use Rattle.aps_c.proofs.PutLaws.{put_then, flag-byte}
 use Rattle.aps_c.proofs.numbers.put_luma.Goals as goal
 
-pub put_u8-abs_at-requires : goal.put_u8-abs_at-requires
-put_u8-abs_at-requires c = omega arith
-
-pub put_u32-sign_at-requires : goal.put_u32-sign_at-requires
-put_u32-sign_at-requires c = omega arith
-
-pub put_bool-clip_at-requires : goal.put_bool-clip_at-requires
-put_bool-clip_at-requires c = omega arith
-
-pub put_u8-requires : goal.put_u8-requires
-put_u8-requires c =
-    omega arith
-
 pub returns : goal.returns
-unfolding luma_numbers
+unfolding luma_numbers naturals flags
 returns c =
-    (put_then (put_then (put_then (put_then (rw c.flag_number.ensures at c.put_u32-idx_at.ensures.0) c.put_u8-abs_at.ensures.0) c.put_u32-sign_at.ensures.0) c.put_bool-clip_at.ensures.0) c.put_u8.ensures.0, omega arith)
+    (put_then (put_then (put_then (put_then (rw (c.from.ensures, flag-byte c.args.d.now.alf_luma_clip_flag) at c.put-idx_at.ensures.0) c.put-abs_at.ensures.0) c.put-sign_at.ensures.0) c.put-clip_at.ensures.0) c.put.ensures.0, omega arith)

@@ -11,7 +11,8 @@ use Rattle.bitstream.proofs.bit_reader.long_ue.Goals as goal
 
 pub returns-then-z-ge32 : goal.returns-then-z-ge32
 returns-then-z-ge32 c =
-    let r = ue-not c.args.bytes.now c.args.p c.requires.0 c.requires.1 (sym c.leading_zeros-z.ensures.0) c.if-z-ge32.true c.refused_u.ensures in record { field = r.0; lacking = r.1 }
+    let p = c.args.place in
+    let r = ue-not p.bytes.now p.bit p.short p.start (sym c.leading_zeros-z.ensures.0) c.if-z-ge32.true in record { field = r.0; lacking = r.1 }
 
 pub overflow_sub-result : goal.overflow_sub-result
 overflow_sub-result c =
@@ -22,10 +23,11 @@ pub overflow_add-result : goal.overflow_add-result
 unfolding ue_value
 overflow_add-result c =
     let z = c.leading_zeros-z.result in
-    rw (one_shl 32 z (omega arith)) (omega (arith, ue-lt z c.wide-v.result (omega arith) (rw c.wide-v.ensures (field_lt _ _ z))))
+    rw (one_shl 32 z (omega arith)) (omega (arith, ue-lt z c.bits.result (omega arith) (rw c.bits.ensures (field_lt _ _ z))))
 
 pub returns : goal.returns
 returns c =
+    let p = c.args.place in
     let z = c.leading_zeros-z.result in
     let e = sym c.leading_zeros-z.ensures.0 in
-    rw (one_shl 32 z (omega arith)) (let r = ue-given c.args.bytes.now c.args.p c.requires.0 c.requires.1 e c.if-z-ge32.false c.suffix_at-s.ensures.0 c.wide-v.ensures c.lacks_bits.ensures in record { field = r.0; lacking = r.1 })
+    rw (one_shl 32 z (omega arith)) (let r = ue-given p.bytes.now p.bit p.short p.start e c.if-z-ge32.false c.suffix-s.ensures.0 c.bits.ensures c.lacks.ensures in record { field = r.0; lacking = r.1 })

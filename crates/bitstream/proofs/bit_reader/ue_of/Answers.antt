@@ -3,26 +3,23 @@ use mathlib.Core.Path.{refl, sym, ap, ◌∙◌}
 use native.Mathlib.Omega.{arith}
 use Rattle.bitstream.specs.Fields.{lacks}
 use Rattle.bitstream.specs.Reading.{ue_lacking}
-use Rattle.bitstream.specs.Windows.{found}
 use Rattle.bitstream.proofs.CallLaws.{lacking-value, ue-in}
 use Rattle.bitstream.proofs.WindowLaws.{window-start, window-found, code-most}
 use Rattle.bitstream.proofs.bit_reader.ue_of.Goals as goal
 
-pub returns-then-size-eq0 : goal.returns-then-size-eq0
-returns-then-size-eq0 c = record { field = c.long_ue.ensures.field; lacking = c.long_ue.ensures.lacking }
+pub overflow_add-result : goal.overflow_add-result
+overflow_add-result c = omega (arith, code-most _ (rw c.in-Some.is at c.requires))
 
-pub overflow_add-after : goal.overflow_add-after
-overflow_add-after c = omega (arith, code-most _ _ c.requires.2)
+pub overflow_cast-short : goal.overflow_cast-short
+overflow_cast-short c = omega (arith, code-most _ (rw c.in-Some.is at c.requires))
 
-pub overflow_cast-size : goal.overflow_cast-size
-overflow_cast-size c = omega (arith, code-most _ _ c.requires.2)
-
-pub returns : goal.returns
+pub returns-in-Some : goal.returns-in-Some
 unfolding ue_lacking
-returns c =
-    let s = c.args.bytes.now in
-    let p = c.args.p in
-    let n = code-most _ _ c.requires.2 in
-    let k = window-found (window-start s p _ refl) (found c.args.code) c.requires.2 (omega arith) (omega arith) in
-    let r = lacking-value _ (refl, c.lacks_bits.ensures ∙ sym (ap (lacks s p) k.1))
-    (ue-in s p c.requires.0 c.requires.1 ∙ k.0) in record { field = r.0; lacking = r.1 }
+returns-in-Some c =
+    let p = c.args.place in
+    let e = rw c.in-Some.is at c.requires in
+    let k = window-found (window-start p.bytes.now p.bit _ refl) e (omega (arith, code-most _ e)) in
+    let r = lacking-value _ (ue-in p.bytes.now p.bit p.short p.start ∙ k.0) (c.lacks.ensures ∙ sym (ap (lacks p.bytes.now p.bit) k.1)) in record { field = r.0; lacking = r.1 }
+
+pub returns-in-None : goal.returns-in-None
+returns-in-None c = record { field = c.long_ue.ensures.field; lacking = c.long_ue.ensures.lacking }

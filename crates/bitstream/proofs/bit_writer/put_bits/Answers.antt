@@ -14,18 +14,18 @@ pub loop-left-init : goal.loop-left-init
 loop-left-init c = (refl, omega arith, refl, refl)
 
 pub nonzero_rem-bits : goal.nonzero_rem-bits
-nonzero_rem-bits c = rw (one_shl 64 c.fitting-c.result (omega arith)) (pow_pos c.fitting-c.result)
+nonzero_rem-bits c = rw (one_shl 64 c.min-c.result (omega arith)) (pow_pos c.min-c.result)
 
 pub put_in_byte-requires : goal.put_in_byte-requires
 put_in_byte-requires c =
-    let w = c.fitting-c.result in
+    let w = c.min-c.result in
     (omega arith, rw (one_shl 64 w (omega arith)) (mod-lt _ (pow_pos w)))
 
 pub loop-left-preserved : goal.loop-left-preserved
 loop-left-preserved c =
     let l = c.loop-left in
     let v = c.args.v in
-    let w = c.fitting-c.result in
+    let w = c.min-c.result in
     let r = l.left - w in
     let e : w + r ≡ l.left = omega arith in (
       length-set l.out (l.p / 8) c.put_in_byte.result ∙ l.invariant.0,

@@ -1,21 +1,24 @@
 -- The bytes counted and the length still to come make the whole length; a turn moves a byte, with its escape, from the second to the first.
 use native.Mathlib.Omega.{arith}
+use Prim.Native.Nat.{◌≤◌, ◌<◌}
+use lib.ListN.{length}
 use Rattle.bitstream.proofs.EscapeTurns.{next, escape-counted, cond-most, escape-count-end}
 use Rattle.bitstream.proofs.nal.escaped_len.Goals as goal
 
 pub overflow_add-n : goal.overflow_add-n
-overflow_add-n c = omega (arith, c.count_if-n.ensures, cond-most c.needs_escape-put.result c.loop-i.n)
+overflow_add-n c = omega (arith, c.count_if-n.ensures, cond-most c.needs_escape-put.result c.loop-b.n)
 
-pub loop-i-preserved : goal.loop-i-preserved
-loop-i-preserved c =
-    let l = c.loop-i in
-    let h = c.loop-i-test.true in
-    let m = next c.args.src.now _ _ h c.needs_escape-put.result _ l.invariant.1 c.zero_run-z.ensures in (
-      m.0,
+pub loop-b-preserved : goal.loop-b-preserved
+loop-b-preserved c =
+    let l = c.loop-b in
+    let h : l.b-index < length c.args.src.now = omega arith in
+    let m = next c.args.src.now _ _ h c.needs_escape-put.result _ l.invariant.0 c.zero_run-z.ensures in (
       m.1,
       omega (arith, c.count_if-n.ensures, cond-most c.needs_escape-put.result l.n),
-      escape-counted _ _ _ h _ _ _ _ c.needs_escape-put.ensures c.zero_run-z.ensures c.count_if-n.ensures l.invariant.3,
+      escape-counted _ _ _ h _ _ _ _ c.needs_escape-put.ensures c.zero_run-z.ensures c.count_if-n.ensures l.invariant.2,
     )
 
 pub returns : goal.returns
-returns c = escape-count-end _ _ _ c.loop-i-test.false _ _ c.count_if.ensures c.loop-i.invariant.3
+returns c =
+    let h : length c.args.src.now ≤ c.loop-b.b-index = omega arith in
+    escape-count-end _ _ _ h _ _ c.count_if.ensures c.loop-b.invariant.2

@@ -9,7 +9,7 @@ pub overflow_cast-z : goal.overflow_cast-z
 overflow_cast-z c = omega (arith, leading_le 64 c.args.w)
 
 pub returns-then-z-gt8 : goal.returns-then-z-gt8
-returns-then-z-gt8 c = code-none c.args.w _ (omega arith) refl refl
+returns-then-z-gt8 c = code-none c.args.w (omega arith)
 
 pub overflow_cast-result : goal.overflow_cast-result
 overflow_cast-result c = omega (arith, (code-small c.args.w (omega arith) (omega arith)).1)
@@ -18,4 +18,4 @@ pub overflow_sub-result-2 : goal.overflow_sub-result-2
 overflow_sub-result-2 c = (code-small c.args.w (omega arith) (omega arith)).0
 
 pub returns : goal.returns
-returns c = code-by-zeros c.args.w _ (omega arith) refl refl
+returns c = code-by-zeros c.args.w (omega arith) refl refl

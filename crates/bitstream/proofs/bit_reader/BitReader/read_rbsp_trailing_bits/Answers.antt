@@ -1,54 +1,55 @@
 -- `read_rbsp_trailing_bits`: the rest of the byte is read as one field.
-use Prim.Native.Nat.{◌+◌, ◌-◌, ◌%◌}
-use mathlib.Core.Path.{◌≡◌, sym, ◌∙◌}
+use Rattle.std.proofs.Common.{rules, ◌≡◌, Err, ◌+◌, ◌-◌, ◌%◌}
+use mathlib.Core.Path.{sym, ◌∙◌}
 use borrow.Author.Tests.{lt-ltb, le-ltb, eq-eqb, ne_eqb}
 use native.Mathlib.Omega.{arith}
 use Rattle.bitstream.specs.Fields.{read_trailing, trailing_width, trailing_value}
 use Rattle.bitstream.specs.Reading.{trailing_at}
 use Rattle.bitstream.proofs.ByteLaws.{one_shl}
-use Rattle.bitstream.proofs.CallLaws.{within-long, within-far, trailing-in}
+use Rattle.bitstream.proofs.CallLaws.{started-refused, trailing-in}
 use Rattle.bitstream.proofs.bit_reader.BitReader.read_rbsp_trailing_bits.Goals as goal
 
-pub returns-then-bytes-gt-LONGEST_INPUT : goal.returns-then-bytes-gt-LONGEST_INPUT
+pub returns-in_err-place : goal.returns-in_err-place
 unfolding trailing_at
-returns-then-bytes-gt-LONGEST_INPUT c = sym (within-long _ _ _ c.if-bytes-gt-LONGEST_INPUT.true)
+returns-in_err-place c =
+    let e : c.from_residual.result ≡ Err c.in_err-place.field-0.0 = search rules in
+    rw e (sym (started-refused _ _ _ c.in_err-place.ensures.err))
 
-pub returns-then-p-gt-LAST_START : goal.returns-then-p-gt-LAST_START
-unfolding trailing_at
-returns-then-p-gt-LAST_START c = sym (within-far _ _ _ c.if-bytes-gt-LONGEST_INPUT.false c.if-p-gt-LAST_START.true)
-
-pub returns-then-bytes-p : goal.returns-then-bytes-p
+pub returns-then-bytes-self : goal.returns-then-bytes-self
 unfolding read_trailing
-returns-then-bytes-p c =
+returns-then-bytes-self c =
     let a = c.args in
-    rw (trailing-in a.bytes.now a.self.bit_pos c.if-bytes-gt-LONGEST_INPUT.false c.if-p-gt-LAST_START.false, le-ltb _ _ c.if-bytes-p.true)
+    let n = c.in_ok-place.ensures.inside in
+    rw (trailing-in a.bytes.now a.self.bit_pos n.0 n.1, le-ltb _ _ c.if-bytes-self.true)
 
-pub returns-then-rest-k : goal.returns-then-rest-k
+pub returns-then-bits-k : goal.returns-then-bits-k
 unfolding read_trailing trailing_width trailing_value
-returns-then-rest-k c =
+returns-then-bits-k c =
     let a = c.args in
     let p = a.self.bit_pos in
+    let n = c.in_ok-place.ensures in
     let w : 8 - p % 8 ≡ 7 - p % 8 + 1 = omega arith in
     let e : p + (7 - p % 8 + 1) ≡ p + (7 - p % 8) + 1 = omega arith in
     rw (
-      trailing-in a.bytes.now p c.if-bytes-gt-LONGEST_INPUT.false c.if-p-gt-LAST_START.false,
-      lt-ltb _ _ c.if-bytes-p.false,
+      trailing-in a.bytes.now p n.inside.0 n.inside.1,
+      lt-ltb _ _ c.if-bytes-self.false,
       w,
-      ← c.narrow-rest.ensures,
-      eq-eqb _ _ (c.if-rest-k.true ∙ one_shl 32 (7 - p % 8) (omega arith)),
+      ← (rw (n.ok.0, n.ok.1) at c.bits.ensures),
+      eq-eqb _ _ (c.if-bits-k.true ∙ one_shl 32 (7 - p % 8) (omega arith)),
       e,
     )
 
-pub returns-else-rest-k : goal.returns-else-rest-k
+pub returns-else-bits-k : goal.returns-else-bits-k
 unfolding read_trailing trailing_width trailing_value
-returns-else-rest-k c =
+returns-else-bits-k c =
     let a = c.args in
     let p = a.self.bit_pos in
+    let n = c.in_ok-place.ensures in
     let w : 8 - p % 8 ≡ 7 - p % 8 + 1 = omega arith in
     rw (
-      trailing-in a.bytes.now p c.if-bytes-gt-LONGEST_INPUT.false c.if-p-gt-LAST_START.false,
-      lt-ltb _ _ c.if-bytes-p.false,
+      trailing-in a.bytes.now p n.inside.0 n.inside.1,
+      lt-ltb _ _ c.if-bytes-self.false,
       w,
-      ← c.narrow-rest.ensures,
-      ne_eqb _ _ (λ e. c.if-rest-k.false (e ∙ sym (one_shl 32 (7 - p % 8) (omega arith)))),
+      ← (rw (n.ok.0, n.ok.1) at c.bits.ensures),
+      ne_eqb _ _ (λ e. c.if-bits-k.false (e ∙ sym (one_shl 32 (7 - p % 8) (omega arith)))),
     )

@@ -1,33 +1,40 @@
 -- `se`: what the ue at the same bit stands for.
-use mathlib.Core.Path.{sym, ap, ◌∙◌}
-use Rattle.bitstream.specs.Outcome.{map_outcome}
-use Rattle.bitstream.specs.Fields.{se_value}
+use Rattle.std.proofs.Common.{rules, ◌≡◌, Err}
+use Rattle.std.proofs.lemmas.Int.{to_z-of_z}
+use mir.Syntax.{w32}
+use mir.Val.{to_z, of_z}
+use mathlib.Core.Path.{ap, ◌∙◌}
 use Rattle.bitstream.specs.Reading.{se_at, se_lacking}
 use Rattle.bitstream.specs.Windows.{code_in}
-use Rattle.bitstream.proofs.CallLaws.{within-long, within-far, lacking-refused, se-of-ue, se-lacks, ue-below}
+use Rattle.bitstream.proofs.CallLaws.{started-refused, lacking-refused, se-value, se-refused, ue-below}
 use Rattle.bitstream.proofs.bit_reader.BitReader.se.Goals as goal
 
-pub returns-then-bytes-gt-LONGEST_INPUT : goal.returns-then-bytes-gt-LONGEST_INPUT
+pub returns-in_err-place : goal.returns-in_err-place
 unfolding se_at se_lacking
-returns-then-bytes-gt-LONGEST_INPUT c =
-    let r = lacking-refused _ c.refused_s.ensures (within-long _ _ _ c.if-bytes-gt-LONGEST_INPUT.true) in record { field = r.0; lacking = r.1 }
+returns-in_err-place c =
+    let e : c.from_residual.result ≡ Err c.in_err-place.field-0.0 = search rules in
+    let r = lacking-refused _ (started-refused _ _ _ c.in_err-place.ensures.err) in
+    rw e (record { field = r.0; lacking = r.1 })
 
-pub returns-then-p-gt-LAST_START : goal.returns-then-p-gt-LAST_START
-unfolding se_at se_lacking
-returns-then-p-gt-LAST_START c =
-    let r = lacking-refused _ c.refused_s-then-p-gt-LAST_START.ensures (within-far _ _ _ c.if-bytes-gt-LONGEST_INPUT.false c.if-p-gt-LAST_START.true) in record { field = r.0; lacking = r.1 }
+pub ue_of-requires : goal.ue_of-requires
+ue_of-requires c =
+    let k = c.in_ok-place.ensures.ok in
+    rw (k.0, k.1) (c.code_in.ensures ∙ ap code_in c.window_alone.ensures)
 
-pub ue_of-read-requires : goal.ue_of-read-requires
-ue_of-read-requires c =
-    (c.if-bytes-gt-LONGEST_INPUT.false, c.if-p-gt-LAST_START.false, c.code_in.ensures ∙ ap code_in c.window_alone.ensures)
+pub returns-in_err-ue : goal.returns-in_err-ue
+returns-in_err-ue c =
+    let e : c.from_residual-in_err-ue.result ≡ Err c.in_err-ue.field-0.0 = search rules in
+    let k = c.in_ok-place.ensures.ok in
+    let r = se-refused _ _ (rw (k.0, k.1) at c.in_err-ue.ensures.field) in
+    rw e (record { field = r.0; lacking = r.1 })
 
-pub signed-requires : goal.signed-requires
-signed-requires c = ue-below _ _ c.ue_of-read.ensures.field
+pub se_value-requires : goal.se_value-requires
+se_value-requires c = ue-below _ _ c.in_ok-ue.ensures.field
 
 pub returns : goal.returns
 returns c =
-    let a = c.args in
-    let s = a.bytes.now in
-    let p = a.self.bit_pos in
-    let e = c.ue_of-read.ensures in
-    record { field = c.signed.ensures ∙ ap (map_outcome se_value) e.field ∙ sym (se-of-ue s p); lacking = e.lacking ∙ sym (se-lacks s p) }
+    let k = c.in_ok-place.ensures.ok in
+    let u = c.in_ok-ue.ensures in
+    let r = se-value _ _ (rw (k.0, k.1) at u.field) (rw (k.0, k.1) at u.lacking) in
+    let z : to_z w32 (of_z w32 c.se_value.result) ≡ c.se_value.result = search (rules, to_z-of_z) in
+    rw (z, c.se_value.ensures) (record { field = r.0; lacking = r.1 })

@@ -1,17 +1,23 @@
 -- `se_by_table`: what the ue at the same bit stands for.
-use mathlib.Core.Path.{sym, ap, ◌∙◌}
-use Rattle.bitstream.specs.Outcome.{map_outcome}
-use Rattle.bitstream.specs.Fields.{se_value}
-use Rattle.bitstream.proofs.CallLaws.{se-of-ue, se-lacks, ue-below}
+use Rattle.std.proofs.Common.{rules, ◌≡◌, Err}
+use Rattle.std.proofs.lemmas.Int.{to_z-of_z}
+use mir.Syntax.{w32}
+use mir.Val.{to_z, of_z}
+use Rattle.bitstream.proofs.CallLaws.{se-value, se-refused, ue-below}
 use Rattle.bitstream.proofs.bit_reader.BitReader.se_by_table.Goals as goal
 
-pub signed-requires : goal.signed-requires
-signed-requires c = ue-below _ _ c.ue_by_table-read.ensures.field
+pub returns-in_err-ue : goal.returns-in_err-ue
+returns-in_err-ue c =
+    let e : c.from_residual.result ≡ Err c.in_err-ue.field-0.0 = search rules in
+    let r = se-refused _ _ c.in_err-ue.ensures.field in
+    rw e (record { field = r.0; lacking = r.1 })
+
+pub se_value-requires : goal.se_value-requires
+se_value-requires c = ue-below _ _ c.in_ok-ue.ensures.field
 
 pub returns : goal.returns
 returns c =
-    let a = c.args in
-    let s = a.bytes.now in
-    let p = a.self.bit_pos in
-    let e = c.ue_by_table-read.ensures in
-    record { field = c.signed.ensures ∙ ap (map_outcome se_value) e.field ∙ sym (se-of-ue s p); lacking = e.lacking ∙ sym (se-lacks s p) }
+    let k = c.in_ok-ue.ensures in
+    let r = se-value _ _ k.field k.lacking in
+    let z : to_z w32 (of_z w32 c.se_value.result) ≡ c.se_value.result = search (rules, to_z-of_z) in
+    rw (z, c.se_value.ensures) (record { field = r.0; lacking = r.1 })

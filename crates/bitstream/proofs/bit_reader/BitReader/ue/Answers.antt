@@ -1,5 +1,6 @@
 -- `ue`: all zeros are those counted and those from q on; where the loop is left there are no more, and q is where the suffix begins.
 use borrow.Author.Tests.{lt-ltb, le-ltb}
+use Rattle.std.proofs.Common.{rules, Err}
 use Prim.Native.Nat.{ℕ, suc, ◌+◌, ◌-◌, ◌*◌, ◌≤◌, ◌<◌}
 use mathlib.Core.Path.{◌≡◌, ap, ◌∙◌}
 use mathlib.Core.List.{List}
@@ -10,9 +11,9 @@ use Rattle.bitstream.specs.Bits.{bit_at}
 use Rattle.bitstream.specs.Fields.{zeros_at, suffix_at, ue_value}
 use Rattle.bitstream.specs.Reading.{ue_at, ue_lacking}
 use Rattle.bitstream.proofs.ByteLaws.{one_shl}
-use Rattle.bitstream.proofs.FieldLaws.{bit-lt, one_bit, field_lt}
+use Rattle.bitstream.proofs.FieldLaws.{bit-lt, field_lt}
 use Rattle.bitstream.proofs.CodeLaws.{zeros-one, zeros-past, zeros-more, ue-lt}
-use Rattle.bitstream.proofs.CallLaws.{within-long, within-far, lacking-refused, ue-given, ue-not}
+use Rattle.bitstream.proofs.CallLaws.{started-refused, lacking-refused, ue-given, ue-not}
 use Rattle.bitstream.proofs.bit_reader.BitReader.ue.Goals as goal
 use Rattle.bitstream.proofs.bit_reader.BitReader.ue.Goals.{Joined-end-q, then-end-q, else-end-q+then-b-eq1}
 
@@ -37,7 +38,7 @@ counted c =
         begins = rw (le-ltb e (length s * 8) (omega arith)) (omega arith);
       }
       | else-end-q+then-b-eq1 w ↦
-          let o : bit_at s l.q ≡ 1 = omega (arith, one_bit s l.q, w.narrow-b.ensures) in
+          let o : bit_at s l.q ≡ 1 = omega (arith, w.bit-b.ensures) in
           record {
             few = omega arith;
             near = omega arith;
@@ -53,39 +54,37 @@ one_more s p q z h l not i =
     let m = 32 - (z + 1) in
     let a : 32 - z ≡ suc m = omega arith in
     let b : suc q ≡ q + 1 = omega arith in
-    let o : bit_at s q ≡ 0 = omega (arith, one_bit s q, bit-lt s q, not) in
+    let o : bit_at s q ≡ 0 = omega (arith, bit-lt s q, not) in
     let e : zeros_at s q (32 - z) ≡ suc (zeros_at s (q + 1) m) = ap (zeros_at s q) a ∙ zeros-more s q m l o (ap (λ (x : ℕ). zeros_at s x m) b) in
     omega (arith, e)
 
-pub returns-then-bytes-gt-LONGEST_INPUT : goal.returns-then-bytes-gt-LONGEST_INPUT
+pub returns-in_err-place : goal.returns-in_err-place
 unfolding ue_at ue_lacking
-returns-then-bytes-gt-LONGEST_INPUT c =
-    let r = lacking-refused _ c.refused_u.ensures (within-long _ _ _ c.if-bytes-gt-LONGEST_INPUT.true) in record { field = r.0; lacking = r.1 }
-
-pub returns-then-p-gt-LAST_START : goal.returns-then-p-gt-LAST_START
-unfolding ue_at ue_lacking
-returns-then-p-gt-LAST_START c =
-    let r = lacking-refused _ c.refused_u-then-p-gt-LAST_START.ensures (within-far _ _ _ c.if-bytes-gt-LONGEST_INPUT.false c.if-p-gt-LAST_START.true) in record { field = r.0; lacking = r.1 }
+returns-in_err-place c =
+    let e : c.from_residual.result ≡ Err c.in_err-place.field-0.0 = search rules in
+    let r = lacking-refused _ (started-refused _ _ _ c.in_err-place.ensures.err) in
+    rw e (record { field = r.0; lacking = r.1 })
 
 pub returns-then-zeros-ge32 : goal.returns-then-zeros-ge32
 returns-then-zeros-ge32 c =
     let l = c.loop-q in
-    let more = one_more c.args.bytes.now c.args.self.bit_pos l.q l.zeros (omega arith) (omega arith) (omega (arith, c.narrow-b.ensures, one_bit c.args.bytes.now l.q)) l.invariant.2 in
-    let r = ue-not c.args.bytes.now c.args.self.bit_pos c.if-bytes-gt-LONGEST_INPUT.false c.if-p-gt-LAST_START.false more (omega arith) c.refused_u-then-zeros-ge32.ensures in
+    let more = one_more c.args.bytes.now c.args.self.bit_pos l.q l.zeros (omega arith) (omega arith) (omega (arith, c.bit-b.ensures)) l.invariant.2 in
+    let n = c.in_ok-place.ensures.inside in
+    let r = ue-not c.args.bytes.now c.args.self.bit_pos n.0 n.1 more (omega arith) in
     record { field = r.0; lacking = r.1 }
 
 pub loop-q-preserved : goal.loop-q-preserved
 loop-q-preserved c =
     let l = c.loop-q in
-    omega (arith, one_more c.args.bytes.now c.args.self.bit_pos l.q l.zeros (omega arith) (omega arith) (omega (arith, c.narrow-b.ensures, one_bit c.args.bytes.now l.q)) l.invariant.2)
+    omega (arith, one_more c.args.bytes.now c.args.self.bit_pos l.q l.zeros (omega arith) (omega arith) (omega (arith, c.bit-b.ensures)) l.invariant.2)
 
-pub wide-suffix-requires : goal.wide-suffix-requires
-wide-suffix-requires c = omega (arith, (counted c).few, (counted c).near)
+pub bits-suffix-requires : goal.bits-suffix-requires
+bits-suffix-requires c = omega (arith, (counted c).few)
 
 pub overflow_add-after : goal.overflow_add-after
 overflow_add-after c =
     let k = counted (goal.at.overflow_add-after c).Joined-end-q in
-    omega (arith, k.few, k.near)
+    omega (arith, k.few, k.near, c.in_ok-place.ensures.inside.1)
 
 pub overflow_shl-code_num : goal.overflow_shl-code_num
 overflow_shl-code_num c = omega (arith, (counted (goal.at.overflow_shl-code_num c).Joined-end-q).few)
@@ -100,7 +99,7 @@ unfolding ue_value
 overflow_add-code_num c =
     let k = counted (goal.at.overflow_add-code_num c).Joined-end-q in
     let z = c.if-end-q.leading_zero_bits in
-    rw (one_shl 32 z k.few) (omega (arith, ue-lt z c.wide-suffix.result k.few (rw c.wide-suffix.ensures (field_lt _ _ z))))
+    rw (one_shl 32 z k.few) (omega (arith, ue-lt z c.bits-suffix.result k.few (rw c.bits-suffix.ensures (field_lt _ _ z))))
 
 pub overflow_mul-leading_zero_bits : goal.overflow_mul-leading_zero_bits
 overflow_mul-leading_zero_bits c = omega (arith, (counted (goal.at.overflow_mul-leading_zero_bits c).Joined-end-q).few)
@@ -111,5 +110,6 @@ overflow_add-leading_zero_bits c = omega (arith, (counted (goal.at.overflow_add-
 pub returns : goal.returns
 returns c =
     let k = counted (goal.at.returns c).Joined-end-q in
-    let r = ue-given c.args.bytes.now c.args.self.bit_pos c.if-bytes-gt-LONGEST_INPUT.false c.if-p-gt-LAST_START.false k.all k.few k.begins c.wide-suffix.ensures c.lacks_bits.ensures in
+    let n = c.in_ok-place.ensures in
+    let r = ue-given c.args.bytes.now c.args.self.bit_pos n.inside.0 n.inside.1 k.all k.few k.begins c.bits-suffix.ensures (rw (n.ok.0, n.ok.1) at c.lacks.ensures) in
     rw (one_shl 32 c.if-end-q.leading_zero_bits k.few) (record { field = r.0; lacking = r.1 })

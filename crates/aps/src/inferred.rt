@@ -1,0 +1,45 @@
+// Values of which nothing is sent: what is inferred is 0 or false.
+ghost use Rattle.std.specs.Prelude.{◌≡◌, Bool, not, eqb};
+ghost use Rattle.aps.specs.Elements.{every};
+
+pub(crate) trait Inferred: Copy {
+    ghost inferred: { Self → Bool };
+
+    fn is_inferred(self) -> bool
+        ensures { result ≡ inferred self };
+}
+
+impl Inferred for bool {
+    ghost inferred = { not };
+
+    fn is_inferred(self) -> bool {
+        !self
+    }
+}
+
+impl Inferred for u8 {
+    ghost inferred = { λ v. eqb v 0 };
+
+    fn is_inferred(self) -> bool {
+        self == 0
+    }
+}
+
+impl Inferred for u32 {
+    ghost inferred = { λ v. eqb v 0 };
+
+    fn is_inferred(self) -> bool {
+        self == 0
+    }
+}
+
+// Whether each value is the inferred one. All are looked at, so that many can be at once.
+pub(crate) fn all_inferred<T: Inferred>(values: &[T]) -> bool
+    ensures { result ≡ every T.inferred values.now }
+{
+    let mut all = true;
+    for v in values {
+        all &= v.is_inferred();
+    }
+    all
+}

@@ -1,6 +1,0 @@
--- `to_bool`: the bits of an i64 are 1 where it is 1.
-use Rattle.aps_c.proofs.TakeLaws.{truth-is}
-use Rattle.aps_c.proofs.set_of.to_bool.Goals as goal
-
-pub returns : goal.returns
-returns c = truth-is c.args.x c.ranges.x

@@ -1,0 +1,80 @@
+// A place at which a field may start, and the bits from there on.
+ghost use Rattle.std.specs.Prelude.{◌≡◌, ◌+◌, ◌≤◌, length, IfOk, OnOk, IfErr};
+ghost use Rattle.bitstream.specs.Outcome.{refused, number};
+ghost use Rattle.bitstream.specs.Bits.{field_at};
+ghost use Rattle.bitstream.specs.Fields.{lacks, zeros_at, suffix_at};
+ghost use Rattle.bitstream.specs.Reading.{started};
+
+use crate::window::window;
+use crate::{LAST_START, LONGEST_INPUT, Refusal};
+
+// Bit `bit` of an input; neither is over its limit.
+#[derive(Clone, Copy)]
+pub(crate) struct Place<'a> {
+    pub(crate) bytes: &'a [u8],
+    pub(crate) bit: usize,
+    ghost short: { length bytes.now ≤ 65536 },
+    ghost start: { bit ≤ 1048576 },
+}
+
+// The n bits from bit p on.
+pub(crate) fn bits(bytes: &[u8], p: usize, n: u32) -> u32
+    requires { n ≤ 32 }
+    ensures { result ≡ field_at bytes.now p n }
+{
+    (window(bytes, p) >> 32 >> (32 - n as u64)) as u32
+}
+
+impl<'a> Place<'a> {
+    // 4: the input is too long; 2: the start is above the last one.
+    pub(crate) fn new(bytes: &'a [u8], bit: usize) -> Result<Self, Refusal>
+        ensures ok { IfOk result (λ place. (place.bytes.now ≡ bytes.now) × (place.bit ≡ bit)) }
+        ensures inside { OnOk result ((length bytes.now ≤ 65536) × (bit ≤ 1048576)) }
+        ensures err { IfErr result (λ why. started bytes.now bit ≡ refused (number why)) }
+    {
+        if LONGEST_INPUT < bytes.len() {
+            return Err(Refusal::InputTooLong);
+        }
+        if LAST_START < bit {
+            return Err(Refusal::InvalidData);
+        }
+        Ok(Place { bytes, bit })
+    }
+
+    // Whether n bits from here on pass the input's last bit.
+    pub(crate) fn lacks(self, n: u32) -> bool
+        ensures { result ≡ lacks self.entry.bytes.now self.entry.bit n }
+    {
+        n != 0 && self.bytes.len() * 8 < self.bit + n as usize
+    }
+
+    // The n bits from here on.
+    pub(crate) fn bits(self, n: u32) -> u32
+        requires { n ≤ 32 }
+        ensures { result ≡ field_at self.entry.bytes.now self.entry.bit n }
+    {
+        bits(self.bytes, self.bit, n)
+    }
+
+    // The 0 bits from here on, up to a 1 bit, the input's end, or 32 of them.
+    pub(crate) fn leading_zeros(self) -> u32
+        ensures { (result ≡ zeros_at self.entry.bytes.now self.entry.bit 32) × (result ≤ 32) }
+    {
+        let end = self.bytes.len() * 8;
+        if end <= self.bit {
+            return 0;
+        }
+        let z = self.bits(32).leading_zeros();
+        let left = end - self.bit;
+        if left < z as usize { left as u32 } else { z }
+    }
+
+    // Where the suffix of a ue with z zeros begins: there is no 1 bit to pass where the input's end stopped the zeros.
+    pub(crate) fn suffix(self, z: u32) -> usize
+        requires { z ≤ 32 }
+        ensures { (result ≡ suffix_at self.entry.bytes.now self.entry.bit z) × (result ≤ self.entry.bit + z + 1) }
+    {
+        let q = self.bit + z as usize;
+        if q < self.bytes.len() * 8 { q + 1 } else { q }
+    }
+}
