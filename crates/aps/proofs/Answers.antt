@@ -1,26 +1,21 @@
 -- What an answer that was taken apart says of the definition it equals.
 use mathlib.Core.Path.{◌≡◌, refl, sym, ap, ◌∙◌}
-use mathlib.Core.Bool.{Bool, false}
+use mathlib.Core.Bool.{Bool}
 use mathlib.Core.List.{List}
 use Prim.Native.Nat.{ℕ}
-use lib.IntN.{ℤ, pos}
-use lib.ListN.{replicate}
-use Rattle.bitstream.specs.Outcome.{Outcome, refused, number}
+use Rattle.bitstream.specs.Outcome.{Outcome, value, refused, number}
 use Rattle.bitstream.specs.declared.Refusal.{Refusal}
 use Rattle.aps.specs.declared.alf.VvcAlfData.{VvcAlfData}
 use Rattle.aps.specs.declared.lmcs.VvcLmcsData.{VvcLmcsData}
 use Rattle.aps.specs.declared.scaling_list.VvcScalingListData.{VvcScalingListData}
+use Rattle.aps.specs.declared.aps.ApsKind.{ApsKind}
 use Rattle.aps.specs.declared.aps.ApsHead.{ApsHead}
 use Rattle.aps.specs.declared.aps.HeadReading.{HeadReading}
-use Rattle.aps.specs.declared.alf_set.AlfAnswer.{AlfAnswer}
-use Rattle.aps.specs.declared.lmcs_set.LmcsAnswer.{LmcsAnswer}
 use Rattle.aps.specs.declared.aps.VvcAps.{VvcAps}
 use Rattle.aps.specs.declared.aps.ApsReading.{ApsReading}
 use Rattle.aps.specs.declared.aps.ApsOutcome.{ApsOutcome}
 use Rattle.aps.specs.declared.aps.ApsOutcome.TheVariants as Aps
-use Rattle.aps.specs.AlfSyntax.{to_luma, to_chroma, to_cc, to_alf}
-use Rattle.aps.specs.LmcsSyntax.{to_lmcs}
-use Rattle.aps.specs.Inner.{no_alf, no_lmcs, assembled, Assembles, AnswersAlf, AnswersLmcs, AnswersScaling}
+use Rattle.aps.specs.Inner.{set_of, with_extension, assembled, Assembles}
 use Rattle.aps.specs.ApsSyntax.{empty_set, zero_alf, zero_lmcs, zero_scaling}
 use Rattle.aps.specs.Rbsp.{read_rbsp}
 use Rattle.aps.specs.Reading.{outcome_read, outcome_aps, set_given, head_of}
@@ -35,36 +30,19 @@ pub refused-answer : (r : ApsReading) (why : Refusal) {o : Outcome VvcAps} → (
 refused-answer r why e f = (rw e.0 (sym f), e.1 ∙ ap set_given (sym f))
 
 -- a refusal that is answered, with the parts of the empty set
-refused-parts : {end : ApsOutcome} {h : ApsHead} {d : VvcAlfData} {l : VvcLmcsData} {c : VvcScalingListData} (why : Refusal) {o : Outcome VvcAps}
+pub refused-parts : {end : ApsOutcome} {h : ApsHead} {d : VvcAlfData} {l : VvcLmcsData} {c : VvcScalingListData} (why : Refusal) {o : Outcome VvcAps}
     → (end ≡ Aps.Refused why) × (h ≡ head_of empty_set) × (d ≡ zero_alf) × (l ≡ zero_lmcs) × (c ≡ zero_scaling) → o ≡ refused (number why)
     → (a : VvcAps) → a ≡ assembled h d l c → (outcome_read end a ≡ o) × (a ≡ set_given o)
 unfolding empty_set
 refused-parts why (e, h, d, l, c) f a g = rw (g, e, h, d, l, c) (sym f, ap set_given (sym f))
 
--- the same by kind, where arrays of zeros make the records
-module _ (s : List ℕ) (why : Refusal) (f : read_rbsp s ≡ refused (number why)) where
-  pub refused-alf : (r : AlfAnswer) {luma-idx luma-abs luma-clip chroma-abs chroma-clip cb-abs cr-abs : List ℕ} {luma-sign chroma-sign cb-sign cr-sign : List Bool}
-      → ((r.outcome ≡ Aps.Refused why) × (r.head ≡ head_of empty_set) × (r.read ≡ no_alf why))
-      × ((luma-idx ≡ replicate 25 0) × (luma-abs ≡ replicate 300 0) × (luma-sign ≡ replicate 300 false) × (luma-clip ≡ replicate 300 0)
-      × (chroma-abs ≡ replicate 48 0) × (chroma-sign ≡ replicate 48 false) × (chroma-clip ≡ replicate 48 0)
-      × (cb-abs ≡ replicate 28 0) × (cb-sign ≡ replicate 28 false) × (cr-abs ≡ replicate 28 0) × (cr-sign ≡ replicate 28 false))
-      → AnswersAlf r s luma-idx luma-abs luma-sign luma-clip chroma-abs chroma-sign chroma-clip cb-abs cb-sign cr-abs cr-sign
-  unfolding zero_alf to_alf to_luma to_chroma to_cc
-  refused-alf r ((e, h, d), (i1, a1, s1, c1, a2, s2, c2, a3, s3, a4, s4)) =
-      refused-parts why (e, h, rw (d, i1, a1, s1, c1, a2, s2, c2, a3, s3, a4, s4), refl, refl) f
-
-  pub refused-lmcs : (r : LmcsAnswer) {abs : List ℕ} {sign : List Bool}
-      → ((r.outcome ≡ Aps.Refused why) × (r.head ≡ head_of empty_set) × (r.read ≡ no_lmcs why)) × ((abs ≡ replicate 16 0) × (sign ≡ replicate 16 false))
-      → AnswersLmcs r s abs sign
-  unfolding zero_lmcs to_lmcs
-  refused-lmcs r ((e, h, l), (m, b)) = refused-parts why (e, h, refl, rw (l, m, b), refl) f
-
-  pub refused-scaling : (r : HeadReading) {copy pred : List Bool} {delta : List ℕ} {dc list : List ℤ}
-      → ((r.outcome ≡ Aps.Refused why) × (r.head ≡ head_of empty_set))
-      × ((copy ≡ replicate 28 false) × (pred ≡ replicate 28 false) × (delta ≡ replicate 28 0) × (dc ≡ replicate 14 (pos 0)) × (list ≡ replicate 1792 (pos 0)))
-      → AnswersScaling r s copy pred delta dc list
-  unfolding zero_scaling
-  refused-scaling r ((e, h), (y, p, d, t, l)) = refused-parts why (e, h, refl, refl, rw (y, p, d, t, l)) f
+-- a set that was read to its end
+pub ended-parts : {kind : ApsKind} {id : ℕ} {chroma x : Bool} {d : VvcAlfData} {l : VvcLmcsData} {c : VvcScalingListData} {q : ℕ} {o : Outcome VvcAps}
+    → value (with_extension (set_of kind id chroma d l c) x) q ≡ o → (h : ApsHead)
+    → h ≡ record { kind = kind; aps_adaptation_parameter_set_id = id; aps_chroma_present_flag = chroma; aps_extension_flag = x }
+    → (a : VvcAps) → a ≡ assembled h d l c → (outcome_read (Aps.Read q) a ≡ o) × (a ≡ set_given o)
+unfolding with_extension
+ended-parts e h f a g = rw (g, f) (e, ap set_given e)
 
 -- what an answer says of each part
 module _ (o : ApsOutcome) (h : ApsHead) (d : VvcAlfData) (l : VvcLmcsData) (c : VvcScalingListData) (s : List ℕ) (e : Assembles o h d l c s) where

@@ -2,12 +2,13 @@
 use mathlib.Core.Path.{◌≡◌, refl, sym, ap, ◌∙◌}
 use mathlib.Core.Bool.{Bool, true, false, cond, ◌&&◌}
 use mathlib.Core.List.{List, [], ◌∷◌}
-use Prim.Native.Nat.{ℕ, zero, suc, ◌+◌, ◌-◌, ◌≤◌, ◌<◌}
+use Prim.Native.Nat.{ℕ, zero, suc, ◌+◌, ◌-◌, ◌*◌, ◌≤◌, ◌<◌}
+use native.Mathlib.Nat.{mul-zero, mul-suc}
 use native.Mathlib.Omega.{arith}
 use borrow.Author.Tests.{lt-ltb, le-ltb, eq-eqb}
-use lib.Dec.{ltb, eqb}
+use lib.Dec.{ltb}
 use lib.ListN.{length, get_or, take, drop, length-drop}
-use lib.Seq.{drop-cons}
+use lib.Seq.{drop-cons, drop-drop}
 use Rattle.std.proofs.Common.{Result, Ok, Err}
 use Rattle.std.proofs.lemmas.List.{get_or-take, length-take, take_all}
 use Rattle.bitstream.specs.Outcome.{value, refused, ◌then◌}
@@ -17,9 +18,9 @@ use Rattle.aps.specs.Elements.{no_pair, every, zipped, apart, rows_of}
 use Rattle.aps.specs.Writes.{writes, written, Wrote, unsent}
 use Rattle.aps.specs.declared.writer.Writer.{Writer}
 use Rattle.aps.proofs.EachLaws.{each_same}
+use Rattle.aps.proofs.ElementLaws.{length-rows}
 use Rattle.aps.proofs.PairLaws.{zipped-length}
 use Rattle.aps.proofs.WriterLaws.{writes-none, writes-nil, writes-cons, writes-via, wrote_as, wrote-when, wrote-via, Writing, writing_start, writing_more, writing-refused}
-use Rattle.aps.proofs.ArrayWrites.{zipped-drop, zipped-step, zipped-every}
 
 -- what a test of the rest gives as an outcome
 unsent-written : (b : Bool) (w : Writer) → written (unsent b) w ≡ cond b (value w.buffer w.at) (refused 2)
@@ -97,6 +98,39 @@ none-sent d c N xs {w} {r} e f =
 -- ---- two arrays beside each other
 
 module _ {A B : Type 0} where
+  -- pairs are dropped as the two arrays are
+  pub zipped-drop : (n : ℕ) (a : List A) (b : List B) → length b ≡ length a → drop n (zipped a b) ≡ zipped (drop n a) (drop n b)
+  zipped-drop zero a b e = refl
+  zipped-drop (suc n) [] b e = refl
+  zipped-drop (suc n) (x ∷ a) [] e = absurd (omega arith)
+  zipped-drop (suc n) (x ∷ a) (y ∷ b) e = zipped-drop n a b (omega arith)
+
+  -- pairs are taken as the two arrays are
+  pub zipped-take : (n : ℕ) (a : List A) (b : List B) → take n (zipped a b) ≡ zipped (take n a) (take n b)
+  zipped-take zero a b = refl
+  zipped-take (suc n) [] b = refl
+  zipped-take (suc n) (x ∷ a) [] = refl
+  zipped-take (suc n) (x ∷ a) (y ∷ b) = ap {B = List (A × B)} (λ t. (x, y) ∷ t) (zipped-take n a b)
+
+  -- the pair at i, then those after it
+  pub zipped-step : (i : ℕ) (a : List A) (b : List B) (d : A) (e : B) → length b ≡ length a → i < length a
+      → drop i (zipped a b) ≡ (get_or a i d, get_or b i e) ∷ drop (suc i) (zipped a b)
+  zipped-step i a b d e s h = rw (zipped-drop i a b s, zipped-drop (suc i) a b s, drop-cons a i d h, drop-cons b i e (omega arith))
+
+  -- every pair is what is inferred where every entry of both is
+  pub zipped-every : (d : Inferred A) (e : Inferred B) (a : List A) (b : List B) → length b ≡ length a
+      → every (no_pair d e).is (zipped a b) ≡ (every d.is a && every e.is b)
+  zipped-every d e [] [] s = refl
+  zipped-every d e [] (y ∷ b) s = absurd (omega arith)
+  zipped-every d e (x ∷ a) [] s = absurd (omega arith)
+  zipped-every d e (x ∷ a) (y ∷ b) s = rw (zipped-every d e a b (omega arith)) (go (d.is x) (e.is y) (every d.is a))
+    where
+      go : (p q r : Bool) → ((p && q) && (r && every e.is b)) ≡ ((p && r) && (q && every e.is b))
+      go true true r = refl
+      go true false true = refl
+      go true false false = refl
+      go false q r = refl
+
   -- two arrays are written as the pairs of them
   pub wrote-apart : {c : Codec (List (A × B))} {a : List A} {b : List B} {before after : Writer} {r : Result (Unit {0}) Refusal} → length b ≡ length a
       → Wrote c (zipped a b) before after r → Wrote (apart c) (a, b) before after r
@@ -108,6 +142,28 @@ module _ {A B : Type 0} where
       → Wrote (apart c) (a, b) before after r → Wrote c (zipped a b) before after r
   unfolding apart
   apart-wrote {c} {a} {b} {before} e w = wrote_as (writes-via _ _ _ c (a, b) before.buffer before.at ∙ rw (eq-eqb (length a) (length b) (sym e))) w
+
+-- ---- rows of flat arrays
+
+-- row i of a flat array is the w entries from w * i on
+row_at : {A : Type 0} (r w i : ℕ) (l : List A) → i < r → get_or (rows_of r w l) i [] ≡ take w (drop (w * i) l)
+row_at zero w i l h = absurd (omega arith)
+row_at (suc r) w zero l h = rw (mul-zero w)
+row_at (suc r) w (suc i) l h =
+    let o : w * suc i ≡ w + w * i = omega (arith, mul-suc w i) in
+    rw o (row_at r w i (drop w l) (omega arith) ∙ ap (take w) (drop-drop (w * i) w l))
+
+module _ {A B : Type 0} where
+  -- row i of two flat arrays
+  pub rows_step : (r w i : ℕ) (p : List A) (k : List B) → i < r
+      → drop i (zipped (rows_of r w p) (rows_of r w k)) ≡ (take w (drop (w * i) p), take w (drop (w * i) k)) ∷ drop (suc i) (zipped (rows_of r w p) (rows_of r w k))
+  rows_step r w i p k h =
+      let step = zipped-step i (rows_of r w p) (rows_of r w k) [] [] (length-rows r w k ∙ sym (length-rows r w p)) (omega (arith, length-rows r w p)) in
+      rw (row_at r w i p h, row_at r w i k h) at step
+
+  -- there are r rows
+  pub rows-length : (r w : ℕ) (p : List A) (k : List B) → length (zipped (rows_of r w p) (rows_of r w k)) ≡ r
+  rows-length r w p k = zipped-length (rows_of r w p) (rows_of r w k) (length-rows r w k ∙ sym (length-rows r w p)) ∙ length-rows r w p
 
 -- two arrays whose first n entries are sent
 module _ {A B : Type 0} (d : Inferred A) (e : Inferred B) (c : Codec (A × B)) (n : ℕ) (a : List A) (b : List B) (before : Writer) where

@@ -12,6 +12,7 @@ use Rattle.bitstream.specs.Outcome.{Outcome, value, refused, map_outcome, ◌the
 use Rattle.bitstream.specs.Bits.{field_at}
 use Rattle.bitstream.specs.Fields.{read_u, lacks, read_ue, ue_asked, se_value}
 use Rattle.bitstream.specs.Reading.{lacking_for, ue_at, ue_lacking, se_at, se_lacking}
+use Rattle.bitstream.proofs.CodeLaws.{value-refused}
 use Rattle.bitstream.proofs.FieldLaws.{field_lt}
 use Rattle.bitstream.proofs.CallLaws.{ue-in, se-lacks}
 use Rattle.bitstream.proofs.CallLaws as Call
@@ -77,6 +78,29 @@ module _ (s : List ℕ) (p : ℕ) where
 
   pub flag-lacking : lacks s p 1 ≡ true → flag.read s p ≡ refused 1
   flag-lacking e = rw (flag-read, e)
+
+-- a field that is given has its bits
+pub u-there : (n : ℕ) (s : List ℕ) (p : ℕ) {v q : ℕ} → value v q ≡ (u n).read s p → (lacks s p n ≡ false) × (v ≡ field_at s p n) × (q ≡ p + n)
+u-there n s p {v} {q} e = go (lacks s p n) refl (e ∙ u-read n s p)
+  where
+    go : (b : Bool) → lacks s p n ≡ b → value v q ≡ cond b (refused 1) (value (field_at s p n) (p + n)) → (lacks s p n ≡ false) × (v ≡ field_at s p n) × (q ≡ p + n)
+    go true f g = absurd (value-refused g)
+    go false f g = (f, cc, cc)
+
+pub u-none : (n : ℕ) (s : List ℕ) (p : ℕ) {m : ℕ} → refused m ≡ (u n).read s p → (lacks s p n ≡ true) × (m ≡ 1)
+u-none n s p {m} e = go (lacks s p n) refl (e ∙ u-read n s p)
+  where
+    go : (b : Bool) → lacks s p n ≡ b → refused m ≡ cond b (refused 1) (value (field_at s p n) (p + n)) → (lacks s p n ≡ true) × (m ≡ 1)
+    go true f g = (f, cc)
+    go false f g = absurd (value-refused (sym g))
+
+-- and so has a flag
+pub flag-there : (s : List ℕ) (p : ℕ) {b : Bool} {q : ℕ} → value b q ≡ flag.read s p → (lacks s p 1 ≡ false) × (b ≡ not (eqb (field_at s p 1) 0)) × (q ≡ p + 1)
+flag-there s p {b} {q} e = go (lacks s p 1) refl (e ∙ flag-read s p)
+  where
+    go : (t : Bool) → lacks s p 1 ≡ t → value b q ≡ cond t (refused 1) (value (not (eqb (field_at s p 1) 0)) (p + 1)) → (lacks s p 1 ≡ false) × (b ≡ not (eqb (field_at s p 1) 0)) × (q ≡ p + 1)
+    go true f g = absurd (value-refused g)
+    go false f g = (f, cc, cc)
 
 -- fields without a rule between them: bits are lacking for one of them
 module _ {B : Type 0} (s : List ℕ) (p n : ℕ) where

@@ -16,10 +16,10 @@ use mir.Val.{bool_byte}
 use Rattle.std.proofs.Common.{Result, Ok, Err}
 use Rattle.bitstream.specs.Outcome.{value, refused}
 use Rattle.bitstream.specs.Bits.{field_bits, put_bits}
-use Rattle.bitstream.specs.Fields.{ue_bits, ue_zeros, se_code}
-use Rattle.bitstream.specs.Writing.{write_bits_at, write_ue_at, write_se_at}
+use Rattle.bitstream.specs.Fields.{ue_bits, ue_zeros, se_code, trailing_bits}
+use Rattle.bitstream.specs.Writing.{write_bits_at, write_ue_at, write_se_at, write_trailing_at}
 use Rattle.bitstream.specs.declared.Refusal.{Refusal}
-use Rattle.bitstream.proofs.WriteLaws.{field-split, ue-top, length-field, write-fits, length-ue, ue-field, length-ue-most, due-some, put-fits}
+use Rattle.bitstream.proofs.WriteLaws.{field-split, ue-top, length-field, write-fits, length-ue, ue-field, length-ue-most, due-some, put-fits, length-trailing}
 use Rattle.aps.specs.Codec.{u, ue, ◌▷◌, via, judged, when}
 use Rattle.aps.specs.Elements.{flag, ue_to, se, se_in, signed}
 use Rattle.aps.specs.AlfSyntax.{coefficient}
@@ -227,3 +227,12 @@ module _ (m : ℕ) (s : Bool) (some : m ≡ 0 → ⊥) (small : m ≤ 128) where
       (writes-taken (u n) v before.buffer before.at (u-fits n v coefficient-small)
       ∙ ap (λ (l : List ℕ). value (put_bits before.buffer before.at l) (before.at + length l)) coefficient-bits
       ∙ sym (writes-taken coefficient (m, s) before.buffer before.at coefficient-fits)) w
+
+-- ---- what closes an RBSP
+
+-- the stop bit and zeros to the end of the byte are written where there is room for a byte
+pub trailing-wrote : (out : List ℕ) (p : ℕ) → (p + 8 ≤ length out * 8) × (p ≤ 1048576) → write_trailing_at out p ≡ value (put_bits out p (trailing_bits p)) (p + length (trailing_bits p))
+unfolding write_trailing_at
+trailing-wrote out p h =
+    let t = length-trailing p in
+    put-fits out p (trailing_bits p) h.1 (omega (arith, due-some p (trailing_bits p) (omega arith)))

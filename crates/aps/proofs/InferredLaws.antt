@@ -8,12 +8,12 @@ use borrow.Author.Tests.{ltb-true}
 use lib.Dec.{ltb}
 use lib.IntN.{ℤ, pos}
 use lib.ListN.{length, get_or, take, drop, get_or-map}
-use Rattle.aps.specs.ScalingSyntax.{entries, id_coded, Entry, no_entry, filled, keep, looked, look}
+use Rattle.aps.specs.ScalingSyntax.{entries, id_coded, Entry, no_entry, filled, keep, looked, looked_at, look}
 use Rattle.aps.specs.ApsSyntax.{zero_alf, zero_lmcs, zero_scaling, Payload, kind_of, alf_in, lmcs_in, scaling_in, to_aps, payload_of, from_aps, inferred}
 use Rattle.aps.specs.declared.scaling_list.VvcScalingListData.{VvcScalingListData}
 use Rattle.aps.specs.declared.aps.ApsKind.{ApsKind}
 use Rattle.aps.specs.declared.aps.VvcAps.{VvcAps}
-use Rattle.aps.proofs.KeepLaws.{kept_row, kept-dc, looked_at, look_at, length-look}
+use Rattle.aps.proofs.KeepLaws.{kept_row, kept-dc, look_at, length-look}
 
 -- the set of a payload, with a's own fields beside it
 abbrev made : VvcAps → Payload → VvcAps

@@ -5,16 +5,14 @@ use Prim.Native.Nat.{ℕ, zero, suc, ◌+◌, ◌/◌, ◌%◌, ◌≤◌, ◌<�
 use native.Mathlib.Omega.{arith}
 use borrow.Author.Tests.{ltb-false, eq-eqb, ne_eqb}
 use lib.Dec.{eqb}
-use lib.IntN.{ℤ, pos, negsuc, nat_abs, neg_ℤ, ◌-ℤ◌}
-use lib.Signed.{lt_z, nat_abs-le}
-use mir.Syntax.{w32, w64}
+use lib.IntN.{ℤ, pos, negsuc, nat_abs, neg_ℤ}
+use lib.Signed.{lt_z}
+use mir.Syntax.{w32}
 use mir.Val.{to_z, of_z, SFits}
 use mir.Facts.{to_z-of_z}
 use Rattle.bitstream.specs.Fields.{se_value}
-use Rattle.bitstream.proofs.Signed.{wide_is}
 use Rattle.aps.specs.ScalingSyntax.{eq_z}
 use Rattle.aps.proofs.CodecLaws.{never_true}
-use Rattle.aps.proofs.SignedLaws.{mag-abs, add-abs}
 use Rattle.aps.proofs.ScalingLaws.{eq_z-only, just-is}
 
 -- `v == w` of two i32 values is the test that they are the same
@@ -42,19 +40,6 @@ se-abs k h = go (eqb (k % 2) 1)
     go : (b : Bool) → nat_abs (cond b (pos ((k + 1) / 2)) (neg_ℤ (pos (k / 2)))) ≤ 500
     go true = omega arith
     go false = omega (arith, neg-abs (pos (k / 2)))
-
--- `v as i64 - w as i64` of two i32 values is their difference
-module _ (v w : ℤ) (f : SFits w32 v) (g : SFits w32 w) where
-  -- the difference of two i32 values is an i64
-  pub difference-fits : SFits w64 (v -ℤ w)
-  difference-fits =
-      record {
-        sfits = omega (arith, mag-abs (v -ℤ w), add-abs v (neg_ℤ w), neg-abs w, nat_abs-le v {H = 2147483648} f.sfits, nat_abs-le w {H = 2147483648} g.sfits);
-      }
-
-  -- and it is what is computed
-  pub difference-is : to_z w64 (of_z w64 (to_z w64 (of_z w64 (to_z w32 (of_z w32 v))) -ℤ to_z w64 (of_z w64 (to_z w32 (of_z w32 w))))) ≡ v -ℤ w
-  difference-is = rw (wide_is v f, wide_is w g) (to_z-of_z difference-fits)
 
 -- a number in -128..127 is an i32
 pub small-fits : (z : ℤ) → lt_z z (negsuc 127) ≡ false → lt_z (pos 127) z ≡ false → SFits w32 z

@@ -12,7 +12,7 @@ use native.Mathlib.Nat.{add-zero, zero-add, suc-add, add-suc, zero-mul, suc-mul}
 use borrow.Author.Tests.{ltb-true}
 use Rattle.aps.specs.Codec.{Codec, ◌▷◌, via, when}
 use Rattle.aps.specs.Elements.{flag, ue_to, se_in, no_flag, no_number, no_pair, joined}
-use Rattle.aps.specs.ScalingSyntax.{filled, keep, looked, tabulate, look, skipped, entries, max_id_delta, id_coded, eq_z, just, step, sums, Entry, coefficients, no_entries, entry_syntax, no_entry, scaling_syntax}
+use Rattle.aps.specs.ScalingSyntax.{filled, keep, looked, tabulate, looked_at, look, skipped, entries, max_id_delta, id_coded, eq_z, just, step, sums, Entry, coefficients, no_entries, entry_syntax, no_entry, scaling_syntax}
 use Rattle.aps.specs.declared.scaling_list.VvcScalingListData.{VvcScalingListData}
 use Rattle.aps.proofs.CodecLaws.{and_left, and_right, never_true}
 use Rattle.aps.proofs.EachLaws.{each-length, each_at}
@@ -142,12 +142,6 @@ module _ (es : List Entry) (j : ℕ) (h : j < length es) where
       get_or-drop 14 (map (λ (e : Entry). e.1.1.1.0) es) (j - 14) (pos 0)
       ∙ ap (λ (i : ℕ). get_or (map (λ (e : Entry). e.1.1.1.0) es) i (pos 0)) (omega arith)
       ∙ get_or-map (λ (e : Entry). e.1.1.1.0) es j no_entry.default
-
--- what is looked at of an id
-abbrev pub looked_at : Bool → VvcScalingListData → ℕ → Entry
-looked_at chroma d id =
-    looked chroma id (get_or d.copy_mode_flag id true) (get_or d.pred_mode_flag id false) (get_or d.pred_id_delta id 0)
-    (get_or d.dc_coef (id - 14) (pos 0)) (take 64 (drop (id * 64) d.scaling_list))
 
 module _ (chroma : Bool) (d : VvcScalingListData) where
   pub length-look : length (look chroma d) ≡ 28

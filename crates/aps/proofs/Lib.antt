@@ -14,7 +14,6 @@ pub mod RbspLaws
 pub mod LocalLaws
 pub mod Answers
 pub mod Below
-pub mod Bounds
 pub mod Gives
 pub mod RowLaws
 pub mod SignedLaws
@@ -37,10 +36,6 @@ pub mod UnitSteps
 pub mod WriterLaws
 pub mod FieldWrites
 pub mod EntryWrites
-pub mod WriteSteps
-pub mod SentWrites
-pub mod PutLaws
-pub mod ArrayWrites
 pub mod AlfFilters
 pub mod AlfWrites
 pub mod LmcsWrites

@@ -9,7 +9,7 @@ use lib.Dec.{leb}
 use lib.ListN.{length}
 use Rattle.bitstream.specs.Outcome.{Outcome, value, refused, number, map_outcome, ◌then◌}
 use Rattle.bitstream.specs.declared.Refusal.{Refusal}
-use Rattle.bitstream.specs.Fields.{lacks}
+use Rattle.bitstream.specs.Fields.{lacks, read_trailing}
 use Rattle.aps.specs.Kinds.{largest_id}
 use Rattle.aps.specs.Codec.{u, ◌▷◌, via, judged, provided, never}
 use Rattle.aps.specs.Elements.{flag}
@@ -17,31 +17,25 @@ use Rattle.aps.specs.AlfSyntax.{alf}
 use Rattle.aps.specs.LmcsSyntax.{lmcs}
 use Rattle.aps.specs.ScalingSyntax.{Entry, scaling_syntax, keep}
 use Rattle.aps.specs.ApsSyntax.{zero_alf, zero_lmcs, zero_scaling, Payload, of_alf, of_lmcs, of_scaling, payload, aps_syntax, to_aps, aps}
-use Rattle.aps.specs.Inner.{Headed, with_extension, finished}
+use Rattle.std.specs.Prelude.{Result}
+use Rattle.std.specs.Result.{IsErrAnd}
+use Rattle.std.proofs.lemmas.Result.{err_from_is_err_and}
+use Rattle.aps.specs.declared.aps.ApsHead.{ApsHead}
+use Rattle.aps.specs.Inner.{Opens, Headed, set_of, with_extension, ended, finished}
 use Rattle.aps.specs.Rbsp.{closed, read_rbsp, parse_aps_rbsp}
 use Rattle.aps.specs.declared.alf.VvcAlfData.{VvcAlfData}
 use Rattle.aps.specs.declared.lmcs.VvcLmcsData.{VvcLmcsData}
 use Rattle.aps.specs.declared.scaling_list.VvcScalingListData.{VvcScalingListData}
 use Rattle.aps.specs.declared.aps.ApsKind.{ApsKind}
 use Rattle.aps.specs.declared.aps.VvcAps.{VvcAps}
+use Rattle.aps.specs.declared.reader.Reader.{Reader}
+use Rattle.aps.specs.Reads.{Reads}
 use Rattle.aps.specs.declared.aps.ApsOutcome.{ApsOutcome}
 use Rattle.aps.specs.declared.aps.ApsOutcome.TheVariants as Aps
 use Rattle.aps.specs.Reading.{outcome_read, set_given}
 use Rattle.aps.proofs.Answers.{answered}
-use Rattle.aps.proofs.FieldSteps.{none-lacking, lacks-part, u-read, u-here, flag-read, flag-here, run-lacking}
-
--- a set of each kind with extension flag 0
-abbrev pub set_of : ApsKind → ℕ → Bool → VvcAlfData → VvcLmcsData → VvcScalingListData → VvcAps
-set_of kind id chroma a l s =
-    record {
-      kind = kind;
-      aps_adaptation_parameter_set_id = id;
-      aps_chroma_present_flag = chroma;
-      aps_extension_flag = false;
-      alf = a;
-      lmcs = l;
-      scaling = s;
-    }
+use Rattle.aps.proofs.FieldSteps.{lacks-part, u-here, u-there, flag-here, flag-there}
+use Rattle.aps.proofs.FieldLaws.{lacks-none, lacks-inside}
 
 -- the set that a payload makes
 abbrev pub set_with : ℕ → Bool → Payload → VvcAps
@@ -63,16 +57,9 @@ set-of-data k id chroma (of_lmcs d) x = refl
 set-of-data k id chroma (of_scaling es) x = refl
 
 module _ (s : List ℕ) where
-  syntax-lacking : lacks s 0 9 ≡ true → aps_syntax.read s 0 ≡ refused 1
-  unfolding aps_syntax
-  syntax-lacking =
-      run-lacking s 0 6 (u 3) _ 3 _ (u-read 3 s 0)
-      (λ kind. run-lacking s 3 1 (u 5) _ 5 _ (u-read 5 s 3)
-      (λ id. run-lacking s 8 0 flag _ 1 _ (flag-read s 8) (λ chroma m. absurd (none-lacking s _ m))))
-
-  pub head-lacking : lacks s 0 9 ≡ true → read_rbsp s ≡ refused 1
-  unfolding read_rbsp aps via
-  head-lacking l = rw (syntax-lacking l)
+  pub not-read : {n : ℕ} → refused n ≡ aps.read s 0 → read_rbsp s ≡ refused n
+  unfolding read_rbsp
+  not-read e = rw (← e)
 
   -- the payload, then the extension flag and the end
   pub headed-payload : (k id : ℕ) (chroma : Bool) → Headed s k id chroma → read_rbsp s ≡ ((payload k id chroma).read s 9 then λ d q. finished s (set_with id chroma d) q)
@@ -161,12 +148,37 @@ module _ (s : List ℕ) (id : ℕ) (chroma : Bool) where
 
 -- ---- how a set ends
 
+-- what closes the RBSP, by the extension flag that was read
+pub ended-finished : (s : List ℕ) (a : VvcAps) (q : ℕ) → map_outcome (with_extension a) (ended s q) ≡ finished s a q
+unfolding ended finished closed with_extension
+ended-finished s a q = first (flag.read s q)
+  where
+    last : (x : Bool) (r : ℕ) (o : Outcome (Unit {0}))
+        → map_outcome (with_extension a) (cond x (value x r) (o then λ e t. value x t)) ≡ cond x (value (with_extension a x) r) (o then λ e t. value (with_extension a x) t)
+    last true r o = refl
+    last false r (value e t) = refl
+    last false r (refused n) = refl
+
+    first : (o : Outcome Bool)
+        → map_outcome (with_extension a) (o then λ x r. cond x (value x r) (read_trailing s r then λ e t. value x t))
+        ≡ (o then λ x r. cond x (value (with_extension a x) r) (read_trailing s r then λ e t. value (with_extension a x) t))
+    first (value x r) = last x r (read_trailing s r)
+    first (refused n) = refl
+
 module _ (a : VvcAps) (x : Bool) (end : ApsOutcome) {o o' : Outcome VvcAps} (f : outcome_read end (with_extension a x) ≡ o) (g : o' ≡ o) where
   pub set_ended : (q : ℕ) → end ≡ Aps.Read q → (value (with_extension a x) q ≡ o') × (with_extension a x ≡ set_given o')
   set_ended q e = let k = sym (answered (λ r. outcome_read r (with_extension a x)) e (f ∙ sym g)) in (k, ap set_given k)
 
   pub set-refused : (why : Refusal) → end ≡ Aps.Refused why → o' ≡ refused (number why)
   set-refused why e = answered (λ r. outcome_read r (with_extension a x)) e (f ∙ sym g)
+
+-- a set whose payload was read: what closes it, or why it is refused
+module _ (s : List ℕ) (set : VvcAps) (q : ℕ) (e : read_rbsp s ≡ finished s set q) where
+  pub set-closed : {x : Bool} {r : ℕ} → value x r ≡ ended s q → value (with_extension set x) r ≡ read_rbsp s
+  set-closed f = ap (map_outcome (with_extension set)) f ∙ ended-finished s set q ∙ sym e
+
+  pub set-open : {n : ℕ} → refused n ≡ ended s q → refused n ≡ read_rbsp s
+  set-open f = ap (map_outcome (with_extension set)) f ∙ ended-finished s set q ∙ sym e
 
 -- ---- the limit of the call
 
@@ -177,3 +189,26 @@ too_long s h = rw (lt-ltb _ _ h)
 pub in-limits : (s : List ℕ) → length s ≤ 65536 → parse_aps_rbsp s ≡ read_rbsp s
 unfolding parse_aps_rbsp
 in-limits s h = rw (le-ltb _ _ h)
+
+-- ---- what stands before the payload, as the reader takes it
+
+-- what `?` returns
+pub opens-exit : (r : Result (Reader × ApsHead) Refusal) (e : Refusal) (s : List ℕ) → IsErrAnd r (λ y. y ≡ e) → parse_aps_rbsp s ≡ refused (number e) → Opens s r
+opens-exit r e s h k = let p = err_from_is_err_and r h in rw (p.1, p.2) k
+
+module _ {s : List ℕ} {w0 : Reader} (short : length s ≤ 65536) (new : (w0.bytes.now ≡ s) × (w0.at ≡ 0)) where
+  pub open-refused : {n : ℕ} {w1 : Reader} → Reads aps (refused n) w0 w1 → parse_aps_rbsp s ≡ refused n
+  open-refused r = in-limits s short ∙ not-read s (rw (new.0, new.1) at r.field)
+
+  module _ {kind id : ℕ} {chroma : Bool} {w1 w2 w3 : Reader} (r : Reads (u 3) (value kind w1.at) w0 w1) (t : Reads (u 5) (value id w2.at) w1 w2) (f : Reads flag (value chroma w3.at) w2 w3) where
+    pub headed : Headed s kind id chroma × (w3.bytes.now ≡ s) × (w3.at ≡ 9)
+    headed =
+        let b1 = r.bytes ∙ new.0 in
+        let b2 = t.bytes ∙ b1 in
+        let (l1, k1, p1) = u-there 3 s 0 (rw (new.0, new.1) at r.field) in
+        let (l2, k2, p2) = u-there 5 s 3 (rw (b1, p1) at t.field) in
+        let (l3, k3, p3) = flag-there s 8 (rw (b2, p2) at f.field) in (
+          record { there = lacks-inside s 0 9 (omega (arith, lacks-none s 8 1 (omega arith) l3)); kind-is = sym k1; id-is = sym k2; chroma-is = sym k3 },
+          f.bytes ∙ b2,
+          p3,
+        )

@@ -1,25 +1,30 @@
 -- Fields one after another, as a reader takes them.
-use mathlib.Core.Path.{◌≡◌, refl, sym, ◌∙◌}
-use mathlib.Core.Bool.{Bool, true, false}
+use mathlib.Core.Path.{◌≡◌, refl, sym, ap, ◌∙◌}
+use mathlib.Core.Bool.{Bool, true, false, cond}
 use mathlib.Core.List.{List}
-use Prim.Native.Nat.{ℕ, ◌+◌, ◌*◌, ◌^◌, ◌≤◌, ◌<◌}
+use Prim.Native.Nat.{ℕ, ◌+◌, ◌-◌, ◌*◌, ◌%◌, ◌^◌, ◌≤◌, ◌<◌}
 use native.Mathlib.Nat.{div-eq_of_lt}
 use native.Mathlib.Omega.{arith}
-use lib.Dec.{ltb}
+use borrow.Author.Tests.{ltb-true, leb-true}
+use lib.Dec.{ltb, leb, eqb}
 use lib.ListN.{length, set, replicate}
 use Rattle.std.specs.Prelude.{Result}
 use Rattle.std.specs.Result.{IsErrAnd}
 use Rattle.std.proofs.lemmas.Result.{err_from_is_err_and}
 use Rattle.bitstream.specs.Outcome.{Outcome, value, refused, number, map_outcome, ◌then◌}
 use Rattle.bitstream.specs.Bits.{field_at}
+use Rattle.bitstream.specs.Fields.{read_trailing, trailing_value, trailing_width}
 use Rattle.bitstream.specs.Windows.{IsWindow}
 use Rattle.bitstream.specs.declared.Refusal.{Refusal}
-use Rattle.aps.specs.Codec.{Codec, ◌▷◌, via, judged, Inferred, when, each, provided}
-use Rattle.aps.specs.Elements.{apart}
+use Rattle.bitstream.proofs.CodeLaws.{value-refused}
+use Rattle.aps.specs.Codec.{Codec, u, ue, ◌▷◌, via, judged, Inferred, when, each, provided}
+use Rattle.aps.specs.Elements.{apart, firsts, seconds, zipped, ue_to, signed}
+use Rattle.aps.proofs.FieldSteps.{signed-u-lt}
+use Rattle.aps.proofs.PairLaws.{zipped-there}
 use Rattle.aps.specs.declared.reader.Reader.{Reader}
 use Rattle.aps.specs.Inner.{ends_at}
 use Rattle.aps.specs.Reads.{given, filled, Reads, Stands}
-use Rattle.aps.proofs.Steps.{Reading, reading-start, reading-more, reading-refused, reading-done}
+use Rattle.aps.proofs.Steps.{judged-true, apart-read, Reading, reading-start, reading-more, reading-refused, reading-done}
 use Rattle.aps.proofs.Steps.{Reading2, reading2-start, reading2-from, reading2-more, reading2-refused, reading2-done}
 
 -- a word of which no bit is known
@@ -30,13 +35,19 @@ no-window {s} {p} {w} h = record { fits = h; most = omega arith; is = div-eq_of_
 pub stays : {w : Reader} → Stands w w
 stays = record { bytes = refl; place = refl }
 
+-- what `?` returns
+pub given-exit : {A : Type 0} (r : Result A Refusal) (e : Refusal) (q : ℕ) {o : Outcome A} → IsErrAnd r (λ y. y ≡ e) → refused (number e) ≡ o → given r q ≡ o
+given-exit r e q h k = let p = err_from_is_err_and r h in rw (p.1, p.2) k
+
+pub filled-exit : {T A : Type 0} (r : Result T Refusal) (e : Refusal) (a : A) (q : ℕ) {o : Outcome A} → IsErrAnd r (λ y. y ≡ e) → refused (number e) ≡ o → filled r a q ≡ o
+filled-exit r e a q h k = let p = err_from_is_err_and r h in rw (p.1, p.2) k
+
 module _ {A : Type 0} {c : Codec A} {w0 w1 : Reader} where
-  -- what `?` returns
   pub reads-exit : (r : Result A Refusal) (e : Refusal) (q : ℕ) → IsErrAnd r (λ y. y ≡ e) → Reads c (refused (number e)) w0 w1 → Reads c (given r q) w0 w1
-  reads-exit r e q h k = let p = err_from_is_err_and r h in rw (p.1, p.2) k
+  reads-exit r e q h k = record { field = given-exit r e q h k.field; bytes = k.bytes }
 
   pub fills-exit : {T : Type 0} (r : Result T Refusal) (e : Refusal) (a : A) (q : ℕ) → IsErrAnd r (λ y. y ≡ e) → Reads c (refused (number e)) w0 w1 → Reads c (filled r a q) w0 w1
-  fills-exit r e a q h k = let p = err_from_is_err_and r h in rw (p.1, p.2) k
+  fills-exit r e a q h k = record { field = filled-exit r e a q h k.field; bytes = k.bytes }
 
   -- a reader at the same place
   pub reads-from : {o : Outcome A} {w2 : Reader} → Stands w0 w1 → Reads c o w1 w2 → Reads c o w0 w2
@@ -113,6 +124,14 @@ module _ {A B : Type 0} {c : Codec A} {w0 w1 : Reader} where
     unfolding ◌▷◌
     reads-▷-first r = record { field = rw (← r.field); bytes = r.bytes }
 
+-- two arrays that were read together, as one of pairs
+pub reads-pairs : {A B : Type 0} (c : Codec (List (A × B))) {o : Outcome (List A × List B)} {w0 w1 : Reader} → Reads (apart c) o w0 w1 → Reads c (map_outcome (λ x. zipped x.0 x.1) o) w0 w1
+reads-pairs {A} {B} c {o} {w0} r = record { field = go o (c.read w0.bytes.now w0.at) (r.field ∙ apart-read c w0.bytes.now w0.at); bytes = r.bytes }
+  where
+    go : (o : Outcome (List A × List B)) (o' : Outcome (List (A × B))) → o ≡ ◌then◌ {B = List A × List B} o' (λ l q. value (firsts l, seconds l) q) → map_outcome (λ x. zipped x.0 x.1) o ≡ o'
+    go o (value l q) e = rw e (ap {B = Outcome (List (A × B))} (λ t. value t q) (zipped-there l))
+    go o (refused n) e = rw e
+
 -- A loop that fills an array, as `Reading` of Steps: the reader stood at w0 before it.
 pub record Filling {A : Type 0} (k : ℕ → Codec A) (N : ℕ) (v : A) (w0 : Reader) (i : ℕ) (a : List A) (w : Reader) : Type 0 where
   pub entries : Reading k N v w0.bytes.now w0.at i a w.at
@@ -172,3 +191,26 @@ module _ {A B : Type 0} (k : ℕ → Codec (A × B)) (N : ℕ) (v : A) (u : B) {
 
     pub filling2-done : i ≤ N → ((j : ℕ) → i ≤ j → j < N → (k j).read w0.bytes.now w1.at ≡ value (v, u) w1.at) → Reads (apart (each N k)) (value (a, b) w1.at) w0 w1
     filling2-done h f = record { field = sym (reading2-done k N v u w0.bytes.now w0.at i a b w1.at F.entries h f); bytes = F.bytes }
+
+-- the trailing bits end inside the input
+pub trailing-inside : (s : List ℕ) (p : ℕ) {q : ℕ} → value (tt {0}) q ≡ read_trailing s p → q ≤ length s * 8
+unfolding read_trailing trailing_width
+trailing-inside s p {q} e = go (ltb p (length s * 8)) refl e
+  where
+    last : (b : Bool) → p < length s * 8 → value (tt {0}) q ≡ cond b (value (tt {0}) (p + (8 - p % 8))) (refused 2) → q ≤ length s * 8
+    last true h f = let g : q ≡ p + (8 - p % 8) = cc in omega arith
+    last false h f = absurd (value-refused f)
+
+    go : (b : Bool) → ltb p (length s * 8) ≡ b
+        → value (tt {0}) q ≡ cond b (cond (eqb (field_at s p (trailing_width p)) (trailing_value p)) (value (tt {0}) (p + (8 - p % 8))) (refused 2)) (refused 1) → q ≤ length s * 8
+    go true h f = last _ (ltb-true _ _ h) f
+    go false h f = absurd (value-refused f)
+
+-- a value that was taken is in its range
+pub reads-most : (most : ℕ) {v q : ℕ} {w0 w1 : Reader} → Reads (ue_to most) (value v q) w0 w1 → v ≤ most
+unfolding ue_to
+reads-most most {w0 = w0} r = leb-true _ most (judged-true (λ v. leb v most) ue w0.bytes.now w0.at (sym r.field))
+
+-- a magnitude that was read is of n bits
+pub reads-signed-lt : (n : ℕ) {m : ℕ} {b : Bool} {q : ℕ} {w0 w1 : Reader} → Reads (signed (u n)) (value (m, b) q) w0 w1 → m < 2 ^ n
+reads-signed-lt n {w0 = w0} r = signed-u-lt n w0.bytes.now w0.at (sym r.field)

@@ -1,12 +1,14 @@
 -- Rows of flat arrays.
 use mathlib.Core.Path.{◌≡◌, refl, sym, ap, ◌∙◌}
-use mathlib.Core.List.{List, [], ◌∷◌, ◌++◌}
-use Prim.Native.Nat.{ℕ, zero, suc, ◌+◌, ◌*◌, ◌≤◌, ◌<◌}
+use mathlib.Core.List.{List, [], ◌∷◌, ◌++◌, append_assoc}
+use Prim.Native.Nat.{ℕ, zero, suc, ◌+◌, ◌-◌, ◌*◌, ◌≤◌, ◌<◌}
 use native.Mathlib.Nat.{add-zero, zero-add, add-suc, suc-add, mul-zero, mul-suc, suc-mul}
 use native.Mathlib.Numerals.{add-one, unary_clauses}
 use native.Mathlib.Omega.{arith}
-use lib.ListN.{length, get_or, take, drop, set, length-set, length-drop}
-use lib.Seq.{sets, sets-eq, take-suc, take-set-le, drop-set-add, length-take-le, take_all, take_at, drop_at}
+use borrow.Rule.Slice.PartMut.{put_mid, mid_of}
+use lib.ListN.{length, get_or, take, drop, set, replicate, length-set, length-drop, length-append}
+use Rattle.std.proofs.lemmas.List.{take-replicate, drop-replicate}
+use lib.Seq.{sets, sets-eq, take-suc, take-set-le, drop-set-add, length-take-le, take_all, take_at, drop_at, drop-drop}
 use Rattle.aps.specs.Elements.{zipped, rows_of}
 use Rattle.aps.proofs.Steps.{zipped-set}
 
@@ -18,6 +20,22 @@ module _ {A : Type 0} where
   -- six stores are one of a row of six
   pub sets-six : (l : List A) (i : ℕ) (a b c d e f : A) → set (set (set (set (set (set l i a) (i + 1) b) (i + 2) c) (i + 3) d) (i + 4) e) (i + 5) f ≡ sets l i (a ∷ b ∷ c ∷ d ∷ e ∷ f ∷ [])
   sets-six l i a b c d e f = simp unary_clauses
+
+  -- a row that was lent is stored where it stood
+  pub part-stored : (l xs : List A) (o k : ℕ) → length xs ≡ k → o + k ≤ length l → put_mid o k l xs ≡ sets l o xs
+  part-stored l xs o k n h =
+      let e : drop k (drop o l) ≡ drop (o + length xs) l = drop-drop k o l ∙ ap (λ (m : ℕ). drop m l) (omega arith) in
+      ap (λ (r : List A). take o l ++ (xs ++ r)) e ∙ sym (append_assoc (take o l) xs (drop (o + length xs) l)) ∙ sym (sets-eq xs l o (omega arith))
+
+  -- entries of what is inferred: a part of them, and those after a part that was stored
+  pub part-blank : (l : List A) (o k n : ℕ) (v : A) → drop o l ≡ replicate n v → k ≤ n → mid_of o k l ≡ replicate k v
+  part-blank l o k n v e h = rw e (take-replicate k n v h)
+
+  pub rest-blank : (l xs : List A) (o n : ℕ) (v : A) → drop o l ≡ replicate n v → o + length xs ≤ length l → drop (o + length xs) (sets l o xs) ≡ replicate (n - length xs) v
+  rest-blank l xs o n v e h =
+      let f : drop (o + length xs) (sets l o xs) ≡ drop (o + length xs) l =
+      rw (sets-eq xs l o h) (drop_at (take o l ++ xs) (drop (o + length xs) l) (o + length xs) (length-append (take o l) xs ∙ ap (λ (m : ℕ). m + length xs) (length-take-le o l (omega arith)))) in
+      f ∙ ap (λ (m : ℕ). drop m l) (omega arith) ∙ sym (drop-drop (length xs) o l) ∙ rw e (drop-replicate (length xs) n v)
 
   -- one entry more of a row
   pub sets_more : (l l' : List A) (o : ℕ) (xs : List A) (j : ℕ) (d : A) → j < length xs → l' ≡ sets l o (take j xs) → set l' (o + j) (get_or xs j d) ≡ sets l o (take (j + 1) xs)

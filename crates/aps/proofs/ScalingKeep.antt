@@ -1,4 +1,4 @@
--- The loop over the ids: its arrays are what is kept of the ids read so far, with blank ones after them.
+-- The loop over the ids: its record is what is kept of the ids read so far, with blank ones after them.
 use mathlib.Core.Path.{◌≡◌, refl, sym, ap, ◌∙◌}
 use mathlib.Core.Bool.{Bool, true, false, cond}
 use mathlib.Core.List.{List, [], ◌∷◌, ◌++◌, map}
@@ -8,18 +8,20 @@ use borrow.Author.Tests.{ltb-true, ltb-false}
 use lib.Dec.{ltb}
 use lib.IntN.{ℤ, pos}
 use lib.ListN.{length, get_or, take, drop, set, replicate}
-use lib.Seq.{sets, drop-cons, drop-set-lt, drop-set-add}
+use lib.Seq.{sets, drop-cons, drop-set-lt, drop-set-add, set-get_or}
 use Rattle.bitstream.specs.Outcome.{Outcome, value, refused, map_outcome}
+use Rattle.aps.specs.ApsSyntax.{zero_scaling}
 use Rattle.aps.specs.Elements.{joined}
-use Rattle.aps.specs.Inner.{stored, scaling_of}
-use Rattle.aps.specs.ScalingSyntax.{Entry, id_coded, id_at, scaling_syntax, filled, keep}
+use Rattle.aps.specs.Reads.{Reads}
+use Rattle.aps.specs.ScalingStore.{blank, stored_in, id_in, kept}
+use Rattle.aps.specs.ScalingSyntax.{Entry, id_at, scaling_syntax, filled, keep, look}
+use Rattle.aps.specs.declared.reader.Reader.{Reader}
 use Rattle.aps.specs.declared.scaling_list.VvcScalingListData.{VvcScalingListData}
-use Rattle.aps.proofs.CodecLaws.{when-law, inside}
-use Rattle.aps.proofs.ScalingLaws.{no_entry-is, entry-law, max_id_delta-le}
-use Rattle.aps.proofs.Steps.{Reading, reading-start, reading-more, reading-refused, reading-done}
 use Rattle.aps.proofs.Gives.{given}
 use Rattle.aps.proofs.KeepLaws.{length-filled}
+use Rattle.aps.proofs.ReaderLaws.{reads-via, Filling, filling-start, filling-more, filling-refused, filling-done}
 use Rattle.aps.proofs.ScalingSteps.{Short, id-short}
+use Rattle.aps.proofs.Steps.{via-read}
 
 -- ---- stores
 
@@ -83,24 +85,6 @@ lists-set (x ∷ es) (suc i) e d h b k =
 
 -- ---- the loop
 
-abbrev blank : Entry
-blank = (false, (false, (0, (pos 0, []))))
-
--- what is kept of the ids es
-record Kept (es : List Entry) (copy pred : List Bool) (delta : List ℕ) (dc list : List ℤ) : Type 0 where
-  copies : map (λ e. e.0) es ≡ copy
-  preds : map (λ e. e.1.0) es ≡ pred
-  deltas : map (λ e. e.1.1.0) es ≡ delta
-  dcs : drop 14 (map (λ e. e.1.1.1.0) es) ≡ dc
-  lists : joined (map row_of es) ≡ list
-
-pub record Keeping (chroma : Bool) (s : List ℕ) (p i : ℕ) (copy pred : List Bool) (delta : List ℕ) (dc list : List ℤ) (q : ℕ) : Type 0 where
-  es : List Entry
-  reading : Reading (id_at chroma) 28 blank s p i es q
-  kept : Kept es copy pred delta dc list
-  pub near : q ≤ length s * 8
-  pub count : i ≤ 28
-
 -- the value that another was made of
 record Made {A B : Type 0} (f : A → B) (o : Outcome A) (b : B) (q : ℕ) : Type 0 where
   of : A
@@ -115,60 +99,88 @@ unmade : {A B : Type 0} (f : A → B) (o : Outcome A) (n : ℕ) → refused n �
 unmade f (value a r) n e = let z : ◌≡◌ {A = ℕ} 0 1 = cc in absurd (omega arith)
 unmade f (refused m) n e = cc
 
-module _ (chroma : Bool) (s : List ℕ) (p : ℕ) where
-  pub keeping_start : (copy pred : List Bool) (delta : List ℕ) (dc list : List ℤ) → p ≤ length s * 8
-      → copy ≡ replicate 28 false → pred ≡ replicate 28 false → delta ≡ replicate 28 0 → dc ≡ replicate 14 (pos 0) → list ≡ replicate 1792 (pos 0)
-      → Keeping chroma s p 0 copy pred delta dc list p
-  unfolding filled
-  keeping_start copy pred delta dc list l a b c d e =
-      record {
-        es = replicate 28 blank;
-        reading = reading-start (id_at chroma) 28 blank s p;
-        kept = record { copies = sym a; preds = sym b; deltas = sym c; dcs = sym d; lists = sym e };
-        near = l;
-        count = omega arith;
-      }
+-- one id stored
+keep-set : (es : List Entry) (i : ℕ) (e : Entry) → i < length es → get_or es i blank ≡ blank → Short e → keep (set es i e) ≡ stored_in (keep es) i e
+unfolding keep stored_in
+keep-set es i e h b k =
+    let f = lists-set es i e blank h (ap (λ (e : Entry). e.1.1.1.1) b) k in
+    let d = ap (drop 14) (map-set (λ (e : Entry). e.1.1.1.0) es i e) ∙ drop-set 13 i (map (λ (e : Entry). e.1.1.1.0) es) e.1.1.1.0 in
+    λ t. record {
+      copy_mode_flag = map-set (λ (e : Entry). e.0) es i e t;
+      pred_mode_flag = map-set (λ (e : Entry). e.1.0) es i e t;
+      pred_id_delta = map-set (λ (e : Entry). e.1.1.0) es i e t;
+      dc_coef = d t;
+      scaling_list = f t;
+    }
 
-  module _ (i : ℕ) (copy pred : List Bool) (delta : List ℕ) (dc list : List ℤ) (q : ℕ) (K : Keeping chroma s p i copy pred delta dc list q) where
-    pub keeping-more : (x : Entry) (r : ℕ) → i < 28 → value x r ≡ map_outcome (stored list i) ((id_at chroma i).read s q)
-        → Keeping chroma s p (i + 1) (set copy i x.0) (set pred i x.1.0) (set delta i x.1.1.0)
-        (cond (ltb 13 i) (set dc (i - 14) x.1.1.1.0) dc) x.1.1.1.1 r
-    keeping-more x r h e =
-        let M = made (stored list i) ((id_at chroma i).read s q) x r e in
-        let R = K.reading in
-        let z : i < length K.es = omega (arith, R.size) in
+-- nothing is stored of an id: its parts are as they were
+module _ (d : VvcScalingListData) (id : ℕ) (b : stored_in d id blank ≡ d) where
+  pub no-copy : set d.copy_mode_flag id false ≡ d.copy_mode_flag
+  unfolding stored_in
+  no-copy = ap (λ (d : VvcScalingListData). d.copy_mode_flag) b
+
+  pub no-pred : set d.pred_mode_flag id false ≡ d.pred_mode_flag
+  unfolding stored_in
+  no-pred = ap (λ (d : VvcScalingListData). d.pred_mode_flag) b
+
+  pub no-delta : set d.pred_id_delta id 0 ≡ d.pred_id_delta
+  unfolding stored_in
+  no-delta = ap (λ (d : VvcScalingListData). d.pred_id_delta) b
+
+  pub no-dc : cond (ltb 13 id) (set d.dc_coef (id - 14) (pos 0)) d.dc_coef ≡ d.dc_coef
+  unfolding stored_in
+  no-dc = ap (λ (d : VvcScalingListData). d.dc_coef) b
+
+-- The loop over the ids: d is what is kept of those before i.
+pub record Storing (chroma : Bool) (w0 : Reader) (i : ℕ) (d : VvcScalingListData) (w : Reader) : Type 0 where
+  es : List Entry
+  reading : Filling (id_at chroma) 28 blank w0 i es w
+  keeps : keep es ≡ d
+
+module _ (chroma : Bool) {w0 : Reader} where
+  pub storing-start : {d : VvcScalingListData} → d ≡ zero_scaling → Storing chroma w0 0 d w0
+  unfolding keep filled zero_scaling
+  storing-start e = record { es = replicate 28 blank; reading = filling-start (id_at chroma) 28 blank refl; keeps = sym e }
+
+  module _ {i : ℕ} {d : VvcScalingListData} {w1 : Reader} (S : Storing chroma w0 i d w1) where
+    -- the ids from i on are as at first
+    still : i < 28 → get_or S.es i blank ≡ blank
+    still h =
+        let R = S.reading.entries in
+        let z : i < length S.es = omega (arith, R.size) in
         let m : 28 - i ≡ suc (28 - (i + 1)) = omega arith in
-        let g : get_or K.es i blank ∷ drop (suc i) K.es ≡ blank ∷ replicate (28 - (i + 1)) blank = sym (drop-cons K.es i blank z) ∙ rw m at R.rest in
-        let f : get_or K.es i blank ≡ blank = cc in
+        let g : get_or S.es i blank ∷ drop (suc i) S.es ≡ blank ∷ replicate (28 - (i + 1)) blank = sym (drop-cons S.es i blank z) ∙ rw m at R.rest in
+        cc
+
+    store : (e : Entry) → i < 28 → Short e → keep (set S.es i e) ≡ stored_in d i e
+    store e h k = keep-set S.es i e (omega (arith, S.reading.entries.size)) (still h) k ∙ ap (λ (d : VvcScalingListData). stored_in d i e) S.keeps
+
+    pub storing-blank : i < 28 → stored_in d i blank ≡ d
+    storing-blank h =
+        let e : set S.es i blank ≡ S.es = rw (still h) at (set-get_or S.es i blank) in
+        sym (store blank h (omega arith)) ∙ ap keep e ∙ S.keeps
+
+    pub storing-more : {d2 : VvcScalingListData} {w2 : Reader} → i < 28 → Reads (id_in d chroma i) (value d2 w2.at) w1 w2 → Storing chroma w0 (i + 1) d2 w2
+    storing-more {d2} {w2} h r =
+        let o = (id_at chroma i).read w1.bytes.now w1.at in
+        let M = made (stored_in d i) o d2 w2.at (rw via-read at r.field) in
         record {
-          es = set K.es i M.of;
-          reading = reading-more (id_at chroma) 28 blank s p i K.es q R M.of r h M.is;
-          kept = more K.es M.of z K.kept (ap (λ (e : Entry). e.1.1.1.1) f) (given Short M.is (id-short chroma i s q)) x M.makes;
-          near = inside (when-law (id_coded chroma i) no_entry-is λ t. entry-law i (omega (arith, max_id_delta-le i))) s q M.of r M.is K.near;
-          count = omega arith;
+          es = set S.es i M.of;
+          reading = filling-more (id_at chroma) 28 blank S.reading h (record { field = sym M.is; bytes = r.bytes });
+          keeps = store M.of h (given Short M.is (id-short chroma i w1.bytes.now w1.at)) ∙ M.makes;
         }
-      where
-        more : (es : List Entry) (e : Entry) → i < length es → Kept es copy pred delta dc list → (get_or es i blank).1.1.1.1 ≡ [] → Short e → (x : Entry) → stored list i e ≡ x
-            → Kept (set es i e) (set copy i x.0) (set pred i x.1.0) (set delta i x.1.1.0) (cond (ltb 13 i) (set dc (i - 14) x.1.1.1.0) dc) x.1.1.1.1
-        more es e z k b n x m =
-            rw (← m) (record {
-              copies = map-set (λ (e : Entry). e.0) es i e ∙ ap (λ (l : List Bool). set l i e.0) k.copies;
-              preds = map-set (λ (e : Entry). e.1.0) es i e ∙ ap (λ (l : List Bool). set l i e.1.0) k.preds;
-              deltas = map-set (λ (e : Entry). e.1.1.0) es i e ∙ ap (λ (l : List ℕ). set l i e.1.1.0) k.deltas;
-              dcs = ap (drop 14) (map-set (λ (e : Entry). e.1.1.1.0) es i e) ∙ drop-set 13 i (map (λ (e : Entry). e.1.1.1.0) es) e.1.1.1.0
-                  ∙ ap (λ (l : List ℤ). cond (ltb 13 i) (set l (i - 14) e.1.1.1.0) l) k.dcs;
-              lists = lists-set es i e blank z b n ∙ ap (λ (l : List ℤ). sets l (64 * i) e.1.1.1.1) k.lists;
-            })
 
-    pub keeping-refused : (n : ℕ) → i < 28 → refused n ≡ map_outcome (stored list i) ((id_at chroma i).read s q) → refused n ≡ map_outcome keep ((scaling_syntax chroma).read s p)
+    pub storing-refused : {n : ℕ} {w2 : Reader} → i < 28 → Reads (id_in d chroma i) (refused n) w1 w2 → Reads (kept chroma) (refused n) w0 w2
     unfolding scaling_syntax
-    keeping-refused n h e =
-        rw (reading-refused (id_at chroma) 28 blank s p i K.es q K.reading n h (unmade (stored list i) ((id_at chroma i).read s q) n e))
+    storing-refused {n} h r =
+        let o = (id_at chroma i).read w1.bytes.now w1.at in
+        let e = unmade (stored_in d i) o n (rw via-read at r.field) in
+        reads-via _ _ _ (filling-refused (id_at chroma) 28 blank S.reading h (record { field = sym e; bytes = r.bytes }))
 
-    pub keeping-done : 28 ≤ i → value (scaling_of copy pred delta dc list) q ≡ map_outcome keep ((scaling_syntax chroma).read s p)
-    unfolding scaling_syntax keep
-    keeping-done h =
-        let k = K.kept in
-        rw (reading-done (id_at chroma) 28 blank s p i K.es q K.reading K.count (λ j a b. absurd (omega arith)))
-        (ap (λ (d : VvcScalingListData). value d q)
-        (λ t. record { copy_mode_flag = sym k.copies t; pred_mode_flag = sym k.preds t; pred_id_delta = sym k.deltas t; dc_coef = sym k.dcs t; scaling_list = sym k.lists t }))
+    pub storing-done : i ≤ 28 → 28 ≤ i → Reads (kept chroma) (value d w1.at) w0 w1
+    unfolding scaling_syntax
+    storing-done h k = rw (← S.keeps) (reads-via _ _ _ (filling-done (id_at chroma) 28 blank S.reading h (λ j a b. absurd (omega arith))))
+
+-- what is kept of the ids that were read
+pub kept-read : (chroma : Bool) (s : List ℕ) (p : ℕ) → (kept chroma).read s p ≡ map_outcome keep ((scaling_syntax chroma).read s p)
+kept-read chroma s p = via-read keep (look chroma) (λ d. true) (scaling_syntax chroma) s p

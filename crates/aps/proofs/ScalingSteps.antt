@@ -1,31 +1,26 @@
 -- The steps of scaling_list_data(), as its readers take them.
 use mathlib.Core.Path.{◌≡◌, refl, sym, ap, ◌∙◌}
 use mathlib.Core.Bool.{Bool, true, false, cond, not, ◌&&◌, ◌||◌}
-use mathlib.Core.List.{List, [], ◌∷◌}
+use mathlib.Core.List.{List, [], ◌∷◌, ◌++◌, append_assoc, append-nil}
 use Prim.Native.Nat.{ℕ, zero, suc, ◌+◌, ◌-◌, ◌*◌, ◌%◌, ◌≤◌, ◌<◌}
-use native.Mathlib.Nat.{add-zero, add-suc, sub-zero}
+use native.Mathlib.Nat.{sub-zero}
 use native.Mathlib.Numerals.{add-one}
 use native.Mathlib.Omega.{arith}
-use borrow.Author.Tests.{leb-true, le-leb}
+use borrow.Author.Tests.{leb-true}
 use lib.Dec.{ltb}
 use lib.IntN.{ℤ, pos, negsuc, nat_abs, ◌+ℤ◌}
-use lib.Signed.{le_z, lt_z}
-use lib.ListN.{length, set}
-use lib.Seq.{sets}
+use lib.Signed.{le_z}
+use lib.ListN.{length, take, set, length-set}
+use lib.Seq.{take-suc-set, take_all}
 use Rattle.bitstream.specs.Outcome.{Outcome, value, refused, map_outcome, ◌then◌}
-use Rattle.bitstream.specs.Fields.{se_value, se_code}
-use Rattle.bitstream.proofs.Signed.{code-se}
-use Rattle.aps.specs.Codec.{Codec, ue, ◌▷◌, via, judged, when, each_from}
+use Rattle.aps.specs.Codec.{Codec, ◌▷◌, via, judged, when, each_from}
 use Rattle.aps.specs.Elements.{flag, se, se_in, no_flag, no_pair}
-use Rattle.aps.specs.Inner.{stored_list, stored, outcome_stop}
-use Rattle.aps.specs.ScalingSyntax.{skipped, entries, max_id_delta, id_coded, just, step, step_at, sums, cons, Entry, coefficients, dc_at, delta_sent, delta_at, no_entries, no_entry, entry_syntax, id_at}
-use Rattle.aps.specs.declared.fields.Stop.{Stop}
+use Rattle.aps.specs.Reads.{Reads}
+use Rattle.aps.specs.ScalingSyntax.{skipped, entries, id_coded, just, step, step_at, sums, cons, Entry, coefficients, dc_at, delta_at, no_entries, no_entry, entry_syntax, id_at}
+use Rattle.aps.specs.declared.reader.Reader.{Reader}
 use Rattle.aps.proofs.Gives.{Gives, given, gives_then, gives-▷, gives-when}
-use Rattle.aps.proofs.Bounds.{ue_to-any}
-use Rattle.aps.proofs.CodecLaws.{when-law, inside}
-use Rattle.aps.proofs.ElementLaws.{no_number-is}
-use Rattle.aps.proofs.ScalingLaws.{entries-le, just-is, step-law}
-use Rattle.aps.proofs.SignedLaws.{add-abs, not_lt_z}
+use Rattle.aps.proofs.ScalingLaws.{entries-le}
+use Rattle.aps.proofs.SignedLaws.{add-abs}
 
 -- a position of the 64 is one of them
 pub position : (id i : ℕ) → i < 64 → skipped id i ≡ skipped id (i % 64)
@@ -39,21 +34,6 @@ se_in-read low high s p = refl
 
 abbrev pub se8 : Codec ℤ
 se8 = se_in (negsuc 127) (pos 127)
-
-module _ (s : List ℕ) (p : ℕ) where
-  pub se8-refused : {n : ℕ} → se.read s p ≡ refused n → se8.read s p ≡ refused n
-  se8-refused e = rw (se_in-read (negsuc 127) (pos 127) s p, e)
-
-  module _ {z : ℤ} {q : ℕ} (e : se.read s p ≡ value z q) where
-    pub se8-low : lt_z z (negsuc 127) ≡ true → se8.read s p ≡ refused 2
-    se8-low a = rw (se_in-read (negsuc 127) (pos 127) s p, e, not_lt_z (negsuc 127) z, a)
-
-    module _ (a : lt_z z (negsuc 127) ≡ false) where
-      pub se8-high : lt_z (pos 127) z ≡ true → se8.read s p ≡ refused 2
-      se8-high b = rw (se_in-read (negsuc 127) (pos 127) s p, e, not_lt_z (negsuc 127) z, a, not_lt_z z (pos 127), b)
-
-      pub se8-in : lt_z (pos 127) z ≡ false → se8.read s p ≡ value z q
-      se8-in b = rw (se_in-read (negsuc 127) (pos 127) s p, e, not_lt_z (negsuc 127) z, a, not_lt_z z (pos 127), b)
 
 -- a number in -128..127
 abbrev pub Small : ℤ → Type 0
@@ -75,39 +55,9 @@ se8-small s p = rw (se_in-read (negsuc 127) (pos 127) s p) (first (se.read s p))
     first (value z q) = judge z q (le_z (negsuc 127) z) (le_z z (pos 127)) refl refl
     first (refused e) = tt
 
--- an se whose ue is at most 254 is in -127..127
-code-in : (z : ℤ) → se_code z ≤ 254 → (le_z (negsuc 127) z && le_z z (pos 127)) ≡ true
-unfolding se_code
-code-in (pos zero) h = refl
-code-in (pos (suc n)) h = le-leb (suc n) 127 (omega arith)
-code-in (negsuc n) h = rw (le-leb n 127 (omega arith))
-
-pub se8-of-ue : (s : List ℕ) (p : ℕ) {k q : ℕ} {z : ℤ} → ue.read s p ≡ value k q → k ≤ 254 → z ≡ se_value k → se8.read s p ≡ value z q
-unfolding se via
-se8-of-ue s p {k} e h f =
-    let l : se_code (se_value k) ≤ 254 = rw (code-se k) h in
-    rw (se_in-read (negsuc 127) (pos 127) s p, e, code-in (se_value k) l, f)
-
 -- ---- one step
 
-module _ (prev : ℤ) (s : List ℕ) (p : ℕ) where
-  pub step-refused : {n : ℕ} → se8.read s p ≡ refused n → (step prev).read s p ≡ refused n
-  unfolding step via
-  step-refused e = rw e
-
-  pub step_value : {z : ℤ} {q : ℕ} → se8.read s p ≡ value z q → (step prev).read s p ≡ value (z +ℤ prev) q
-  unfolding step via
-  step_value e = rw e
-
 module _ (id i : ℕ) (prev : ℤ) (s : List ℕ) (p : ℕ) where
-  pub step_skip : skipped id i ≡ true → (step_at id i prev).read s p ≡ value prev p
-  unfolding when
-  step_skip k = rw k
-
-  pub step-sent : skipped id i ≡ false → (step_at id i prev).read s p ≡ (step prev).read s p
-  unfolding when
-  step-sent k = rw k
-
   pub step_small : Gives (λ v. nat_abs v ≤ nat_abs prev + 128) ((step_at id i prev).read s p)
   unfolding when step via
   step_small = go (skipped id i)
@@ -150,128 +100,62 @@ sums-length id i (suc n) prev s p = first ((step_at id i prev).read s p) refl (�
     first (value v q) e h = rw (sums-more id i prev s p n e) (last v ((sums id (suc i) n v).read s q) (h v q))
     first (refused k) e h = rw (sums-refused id i prev s p n e) tt
 
--- The loop over the steps: the sums before i are stored in the flat array a, and what is left to read is stored after them.
-pub record Stepping (id n : ℕ) (dc : ℤ) (s : List ℕ) (p : ℕ) (a₀ : List ℤ) (i : ℕ) (a : List ℤ) (sum : ℤ) (q : ℕ) : Type 0 where
-  pub left : map_outcome (sets a (64 * id + i)) ((sums id i (n - i) sum).read s q) ≡ map_outcome (sets a₀ (64 * id)) ((sums id 0 n dc).read s p)
-  pub near : q ≤ length s * 8
+-- The loop over the sums of a list: those before i are stored in a, and what is left to read follows them.
+pub record Summing (id n : ℕ) (dc : ℤ) (w0 : Reader) (i : ℕ) (a : List ℤ) (sum : ℤ) (w : Reader) : Type 0 where
+  pub left : map_outcome (λ l. take i a ++ l) ((sums id i (n - i) sum).read w0.bytes.now w.at) ≡ (sums id 0 n dc).read w0.bytes.now w0.at
+  pub bytes : w.bytes.now ≡ w0.bytes.now
   pub small : nat_abs sum ≤ 128 * (i + 1)
-  pub count : i ≤ n
+  pub size : length a ≡ n
 
-module _ (id n : ℕ) (dc : ℤ) (s : List ℕ) (p : ℕ) (a₀ : List ℤ) where
-  pub stepping-start : p ≤ length s * 8 → nat_abs dc ≤ 128 → Stepping id n dc s p a₀ 0 a₀ dc p
-  stepping-start l h = record { left = rw (add-zero (64 * id), sub-zero n); near = l; small = omega arith; count = omega arith }
+module _ (id n : ℕ) (dc : ℤ) {w0 : Reader} where
+  pub summing-start : {a : List ℤ} → length a ≡ n → nat_abs dc ≤ 128 → Summing id n dc w0 0 a dc w0
+  summing-start {a} e h =
+      record { left = rw (sub-zero n) (go ((sums id 0 n dc).read w0.bytes.now w0.at)); bytes = refl; small = omega arith; size = e }
+    where
+      go : (o : Outcome (List ℤ)) → map_outcome (λ l. take 0 a ++ l) o ≡ o
+      go (value l q) = refl
+      go (refused k) = refl
 
-  module _ (i : ℕ) (a : List ℤ) (sum : ℤ) (q : ℕ) (R : Stepping id n dc s p a₀ i a sum q) where
-    pub stepping-more : (v : ℤ) (r : ℕ) → i < n → (step_at id i sum).read s q ≡ value v r → Stepping id n dc s p a₀ (i + 1) (set a (64 * id + i) v) v r
-    stepping-more v r h e =
+  module _ {i : ℕ} {a : List ℤ} {sum : ℤ} {w1 : Reader} (S : Summing id n dc w0 i a sum w1) where
+    pub summing-more : {v : ℤ} {w2 : Reader} → i < n → Reads (step_at id i sum) (value v w2.at) w1 w2 → Summing id n dc w0 (i + 1) (set a i v) v w2
+    summing-more {v} {w2} h r =
+        let s = w0.bytes.now in
+        let e : (step_at id i sum).read s w1.at ≡ value v w2.at = sym (rw S.bytes at r.field) in
         let m : n - i ≡ suc (n - (i + 1)) = omega arith in
-        let f : map_outcome (sets a (64 * id + i)) ((sums id i (n - i) sum).read s q) ≡ map_outcome (sets (set a (64 * id + i) v) (64 * id + (i + 1))) ((sums id (i + 1) (n - (i + 1)) v).read s r)
-        = rw (m, sums-more id i sum s q (n - (i + 1)) e, add-one i, add-suc (64 * id) i) (go ((sums id (suc i) (n - suc i) v).read s r)) in
+        let z : i < length a = omega (arith, S.size) in
+        let f : map_outcome (λ l. take i a ++ l) ((sums id i (n - i) sum).read s w1.at) ≡ map_outcome (λ l. take (i + 1) (set a i v) ++ l) ((sums id (i + 1) (n - (i + 1)) v).read s w2.at)
+        = rw (m, sums-more id i sum s w1.at (n - (i + 1)) e, add-one i, take-suc-set a i v z) (go ((sums id (suc i) (n - suc i) v).read s w2.at)) in
         record {
-          left = sym f ∙ R.left;
-          near = inside (when-law (not (skipped id i)) (just-is sum) λ t. step-law sum) s q v r e R.near;
-          small = omega (arith, R.small, given (λ (w : ℤ). nat_abs w ≤ nat_abs sum + 128) e (step_small id i sum s q));
-          count = omega arith;
+          left = sym f ∙ S.left;
+          bytes = r.bytes ∙ S.bytes;
+          small = omega (arith, S.small, given (λ (w : ℤ). nat_abs w ≤ nat_abs sum + 128) e (step_small id i sum s w1.at));
+          size = length-set a i v ∙ S.size;
         }
       where
-        go : (o : Outcome (List ℤ)) → map_outcome (sets a (64 * id + i)) (map_outcome (λ l. v ∷ l) o) ≡ map_outcome (sets (set a (64 * id + i) v) (suc (64 * id + i))) o
-        go (value l t) = refl
+        go : (o : Outcome (List ℤ)) → map_outcome (λ l. take i a ++ l) (map_outcome (λ l. v ∷ l) o) ≡ map_outcome (λ l. (take i a ++ v ∷ []) ++ l) o
+        go (value l q) = ap (λ (t : List ℤ). value t q) (sym (append_assoc (take i a) (v ∷ []) l))
         go (refused k) = refl
 
-    pub stepping-refused : {e : ℕ} → i < n → (step_at id i sum).read s q ≡ refused e → refused e ≡ map_outcome (sets a₀ (64 * id)) ((sums id 0 n dc).read s p)
-    stepping-refused h r =
+    pub summing-refused : {e : ℕ} {w2 : Reader} → i < n → Reads (step_at id i sum) (refused e) w1 w2 → Reads (sums id 0 n dc) (refused e) w0 w2
+    summing-refused {e} h r =
+        let s = w0.bytes.now in
+        let f : (step_at id i sum).read s w1.at ≡ refused e = sym (rw S.bytes at r.field) in
         let m : n - i ≡ suc (n - (i + 1)) = omega arith in
-        sym (rw (m, sums-refused id i sum s q (n - (i + 1)) r)) ∙ R.left
+        let g : map_outcome (λ l. take i a ++ l) ((sums id i (n - i) sum).read s w1.at) ≡ refused e = rw (m, sums-refused id i sum s w1.at (n - (i + 1)) f) in
+        record { field = sym g ∙ S.left; bytes = r.bytes ∙ S.bytes }
 
-    pub stepping-done : n ≤ i → value a q ≡ map_outcome (sets a₀ (64 * id)) ((sums id 0 n dc).read s p)
-    stepping-done h =
+    pub summing-done : n ≤ i → Reads (sums id 0 n dc) (value a w1.at) w0 w1
+    summing-done h =
+        let s = w0.bytes.now in
         let m : n - i ≡ 0 = omega arith in
-        let f : map_outcome (sets a (64 * id + i)) ((sums id i (n - i) sum).read s q) ≡ value a q = rw (m, sums-end id i sum s q) in
-        sym f ∙ R.left
+        let g : map_outcome (λ l. take i a ++ l) ((sums id i (n - i) sum).read s w1.at) ≡ value a w1.at
+        = rw (m, sums-end id i sum s w1.at, append-nil (take i a), take_all i a (omega (arith, S.size))) in
+        record { field = sym g ∙ S.left; bytes = S.bytes }
 
--- ---- what a callee stored, in the caller's answer: f of what the callee read is g of what the caller reads
-
-stop-map : {A B C D : Type 0} (f : A → B) (g : C → B) (h : D → A) (k : D → C) → ((d : D) → f (h d) ≡ g (k d)) → (t : Stop) (x : A) (o : Outcome D)
-    → outcome_stop t x ≡ map_outcome h o → outcome_stop t (f x) ≡ map_outcome g (map_outcome k o)
-stop-map {B = B} {D = D} f g h k same t x o e = one t ∙ ap (map_outcome f) e ∙ two o
-  where
-    one : (t : Stop) → outcome_stop t (f x) ≡ map_outcome f (outcome_stop t x)
-    one (Stop.End q) = refl
-    one (Stop.Refused n) = refl
-
-    two : (o : Outcome D) → map_outcome f (map_outcome h o) ≡ map_outcome g (map_outcome k o)
-    two (value d q) = ap (λ (b : B). value b q) (same d)
-    two (refused n) = refl
-
--- ---- the DC and the steps
+-- ---- the DC and the lists
 
 pub dc-small : (id : ℕ) (s : List ℕ) (p : ℕ) → Gives Small ((dc_at id).read s p)
 dc-small id s p = gives-when (ltb 13 id) (just (pos 0)) se8 Small s p (se8-small s p) (omega arith)
-
-module _ (id : ℕ) (s : List ℕ) (p : ℕ) where
-  pub dc-refused : {n : ℕ} → (dc_at id).read s p ≡ refused n → (coefficients id).read s p ≡ refused n
-  unfolding coefficients ◌▷◌
-  dc-refused e = rw e
-
-  dc-value : {dc : ℤ} {q : ℕ} → (dc_at id).read s p ≡ value dc q → (coefficients id).read s p ≡ map_outcome (λ l. (dc, l)) ((sums id 0 (entries id) dc).read s q)
-  unfolding coefficients ◌▷◌
-  dc-value {dc = dc} {q = q} e = rw e (go ((sums id 0 (entries id) dc).read s q))
-    where
-      go : (o : Outcome (List ℤ)) → ◌then◌ {B = ℤ × List ℤ} o (λ l r. value (dc, l) r) ≡ map_outcome (λ l. (dc, l)) o
-      go (value l r) = refl
-      go (refused n) = refl
-
-  pub coefficients-stored : {dc : ℤ} {q : ℕ} → (dc_at id).read s p ≡ value dc q → (t : Stop) (a a' : List ℤ)
-      → outcome_stop t a' ≡ map_outcome (sets a (64 * id)) ((sums id 0 (entries id) dc).read s q)
-      → outcome_stop {A = ℤ × List ℤ} t (dc, a') ≡ map_outcome (stored_list a id) ((coefficients id).read s p)
-  coefficients-stored {dc = dc} {q = q} e t a a' r =
-      rw (dc-value e)
-      (stop-map (λ (l : List ℤ). (dc, l)) (stored_list a id) (sets a (64 * id)) (λ l. (dc, l)) (λ l. refl) t a' ((sums id 0 (entries id) dc).read s q) r)
-
--- ---- one id
-
-pub delta-inside : (id : ℕ) (used : Bool) (s : List ℕ) (p : ℕ) {v q : ℕ} → (delta_at id used).read s p ≡ value v q → p ≤ length s * 8 → q ≤ length s * 8
-delta-inside id used s p {v} {q} = inside (when-law (delta_sent id used) no_number-is λ t. ue_to-any (max_id_delta id)) s p v q
-
-pub entry-lacking : (id : ℕ) (s : List ℕ) (p : ℕ) {n : ℕ} → flag.read s p ≡ refused n → (entry_syntax id).read s p ≡ refused n
-unfolding entry_syntax ◌▷◌
-entry-lacking id s p e = rw e
-
-module _ (id : ℕ) (s : List ℕ) (p q : ℕ) where
-  module _ (e : flag.read s p ≡ value true q) where
-    pub copy-refused : {n : ℕ} → (delta_at id true).read s q ≡ refused n → (entry_syntax id).read s p ≡ refused n
-    unfolding entry_syntax ◌▷◌ when
-    copy-refused f = rw (e, f)
-
-    pub copy-value : {delta r : ℕ} → (delta_at id true).read s q ≡ value delta r → (entry_syntax id).read s p ≡ value (true, (false, (delta, (pos 0, [])))) r
-    unfolding entry_syntax ◌▷◌ when
-    copy-value f = rw (e, f)
-
-  pub pred-lacking : {n : ℕ} → flag.read s p ≡ value false q → flag.read s q ≡ refused n → (entry_syntax id).read s p ≡ refused n
-  unfolding entry_syntax ◌▷◌ when
-  pred-lacking e f = rw (e, f)
-
-  module _ (e : flag.read s p ≡ value false q) {pred : Bool} {r : ℕ} (f : flag.read s q ≡ value pred r) where
-    pub delta-refused : {n : ℕ} → (delta_at id pred).read s r ≡ refused n → (entry_syntax id).read s p ≡ refused n
-    unfolding entry_syntax ◌▷◌ when
-    delta-refused g = rw (e, f, g)
-
-    delta-value : {delta t : ℕ} → (delta_at id pred).read s r ≡ value delta t → (entry_syntax id).read s p ≡ map_outcome (λ x. (false, (pred, (delta, x)))) ((coefficients id).read s t)
-    unfolding entry_syntax ◌▷◌ when
-    delta-value {delta = delta} {t = t} g = rw (e, f, g) (go ((coefficients id).read s t))
-      where
-        go : (o : Outcome (ℤ × List ℤ))
-            → ◌then◌ {B = Entry} (◌then◌ {B = Bool × (ℕ × (ℤ × List ℤ))} (◌then◌ {B = ℕ × (ℤ × List ℤ)} o (λ x z. value (delta, x) z)) (λ x z. value (pred, x) z)) (λ x z. value (false, x) z)
-            ≡ map_outcome (λ x. (false, (pred, (delta, x)))) o
-        go (value x z) = refl
-        go (refused n) = refl
-
-    pub entry-stored : {delta t : ℕ} → (delta_at id pred).read s r ≡ value delta t → (k : Stop) (dc : ℤ) (a a' : List ℤ)
-        → outcome_stop {A = ℤ × List ℤ} k (dc, a') ≡ map_outcome (stored_list a id) ((coefficients id).read s t)
-        → outcome_stop {A = Entry} k (false, (pred, (delta, (dc, a')))) ≡ map_outcome (stored a id) ((entry_syntax id).read s p)
-    entry-stored {delta = delta} {t = t} g k dc a a' o =
-        rw (delta-value g)
-        (stop-map {B = Entry} (λ (x : ℤ × List ℤ). (false, (pred, (delta, x)))) (stored a id) (stored_list a id) (λ x. (false, (pred, (delta, x)))) (λ x. refl) k (dc, a') ((coefficients id).read s t) o)
 
 -- a list has at most 64 entries
 abbrev pub Short : Entry → Type 0

@@ -8,7 +8,7 @@ use native.Mathlib.Numerals.{add-one}
 use native.Mathlib.Omega.{arith}
 use lib.ListN.{length, get_or, take, drop, set, replicate, length-set, length-replicate, take-append-drop}
 use lib.Seq.{take-suc, take-suc-set, drop-set-lt, drop-drop, length-take-le, take_at, drop_at}
-use Rattle.bitstream.specs.Outcome.{Outcome, value, refused, ◌then◌}
+use Rattle.bitstream.specs.Outcome.{Outcome, value, refused, map_outcome, ◌then◌}
 use Rattle.aps.specs.Elements.{firsts, seconds, zipped, apart}
 use Rattle.aps.proofs.PairLaws.{firsts-zipped, seconds-zipped}
 use Rattle.aps.specs.Codec.{Codec, via, judged, Inferred, when, each_from, each}
@@ -35,13 +35,17 @@ module _ {A : Type 0} where
   unfolding when
   when-read b d c s p = refl
 
-  pub when-ok : (b : Bool) (d : Inferred A) (c : Codec A) (a : A) → (when b d c).ok a ≡ cond b (c.ok a) (d.is a)
-  unfolding when
-  when-ok b d c a = refl
-
   ◌then◌-value : (x : Outcome (List A)) → x ≡ ◌then◌ x (λ ys r. value ys r)
   ◌then◌-value (value a q) = refl
   ◌then◌-value (refused n) = refl
+
+pub via-read : {A B : Type 0} (to : A → B) (from : B → A) (test : B → Bool) (c : Codec A) (s : List ℕ) (p : ℕ) → (via to from test c).read s p ≡ map_outcome to (c.read s p)
+unfolding via
+via-read {A} to from test c s p = go (c.read s p)
+  where
+    go : (o : Outcome A) → ◌then◌ o (λ a q. value (to a) q) ≡ map_outcome to o
+    go (value a q) = refl
+    go (refused n) = refl
 
 module _ {A : Type 0} (k : ℕ → Codec A) where
   -- an array is read in two parts

@@ -2,7 +2,6 @@
 use mathlib.Core.Path.{◌≡◌, refl, ap, ◌∙◌}
 use mathlib.Core.List.{List}
 use Prim.Native.Nat.{ℕ, ◌≤◌}
-use native.Mathlib.Omega.{arith}
 use Rattle.bitstream.specs.Outcome.{Outcome, value, refused, number, map_outcome, ◌then◌}
 use Rattle.bitstream.proofs.CodeLaws.{value-refused}
 use Rattle.aps.specs.Codec.{Codec, ◌▷◌}
@@ -20,10 +19,6 @@ after_same (Stop.Refused e) f g h = refl
 pub map-stop : {A B : Type 0} (f : A → B) (to : Stop) (a : A) {o : Outcome A} → outcome_stop to a ≡ o → outcome_stop to (f a) ≡ map_outcome f o
 map-stop f (Stop.End q) a e = rw (← e)
 map-stop f (Stop.Refused n) a e = rw (← e)
-
-pub stops-more : (to : Stop) (m n : ℕ) → StopsBy to m → m ≤ n → StopsBy to n
-stops-more (Stop.End q) m n h l = omega arith
-stops-more (Stop.Refused e) m n h l = tt
 
 -- where a run ended
 pub stops_at : {to : Stop} {q m : ℕ} → to ≡ Stop.End q → StopsBy to m → q ≤ m

@@ -4,16 +4,19 @@ use borrow.Rule.Slice.PartMut.{mid_of, put_mid, put_same}
 use mathlib.Core.Path.{◌≡◌, refl, sym, ap, ◌∙◌}
 use mathlib.Core.Bool.{Bool, true, false, cond, ◌||◌}
 use mathlib.Core.List.{List, [], ◌∷◌, ◌++◌, append-nil}
-use Prim.Native.Nat.{ℕ, zero, suc, ◌+◌, ◌-◌, ◌*◌, ◌≤◌, ◌<◌}
+use Prim.Native.Nat.{ℕ, suc, ◌+◌, ◌-◌, ◌*◌, ◌≤◌, ◌<◌}
 use native.Mathlib.Omega.{arith}
 use lib.Dec.{ltb, eqb}
-use lib.ListN.{length, get_or, take, drop, set, length-drop}
-use lib.Seq.{take-length, drop-length, drop-cons, length-take-le}
-use Rattle.bitstream.specs.Outcome.{Outcome, value, refused, left, ◌then◌}
+use lib.ListN.{length, drop, set, length-drop}
+use lib.Seq.{take-length, drop-length, length-take-le}
+use Rattle.std.proofs.Common.{Result}
+use Rattle.std.proofs.lemmas.Result.{err_from_is_err_and}
+use Rattle.std.specs.Result.{IsErrAnd}
+use Rattle.bitstream.specs.Outcome.{Outcome, value, refused, number, outcome_written, left, ◌then◌}
+use Rattle.bitstream.specs.declared.Refusal.{Refusal}
 use Rattle.bitstream.specs.Escapes.{escape, put_bytes, rbsp_to_ebsp}
 use Rattle.bitstream.proofs.CodeLaws.{value-refused}
 use Rattle.bitstream.proofs.WriteLaws.{wrote}
-use Rattle.bitstream.proofs.Filling.{Filling, step, finish}
 use Rattle.aps.specs.Unit.{is_aps}
 use Rattle.aps.specs.Writing.{bytes_due, unit_of, write_aps, write_nal, write_aps_nal}
 use Rattle.aps.specs.declared.aps.VvcAps.{VvcAps}
@@ -51,29 +54,22 @@ module _ (out l : List ℕ) where
       go true t e = (cc, ltb-true _ _ t)
       go false t e = absurd (value-refused (sym e))
 
+  -- there is room: they stand at its start
+  pub copied : length l ≤ length out → (value (l ++ drop (length l) out) (length l) ≡ put_bytes out l) × (l ++ drop (length l) out ≡ left out (put_bytes out l))
+  copied h = wrote out (out-fits h)
+
   -- too little room: the output stays
   pub not-copied : length out < length l → (refused 5 ≡ put_bytes out l) × (out ≡ left out (put_bytes out l))
   not-copied h = wrote out (out-short h)
 
--- the loop has copied the bytes below i
-pub copied_more : (out₀ out bytes : List ℕ) (i : ℕ) → i < length bytes → length bytes ≤ length out₀ → Filling out₀ out i (drop i bytes) bytes
-    → Filling out₀ (set out i (get_or bytes i 0)) (i + 1) (drop (i + 1) bytes) bytes
-copied_more out₀ out bytes i h l f =
-    let e : i + 1 ≡ suc i = omega arith in
-    rw e (rw e at (step (rw (drop-cons bytes i 0 h) at f) l))
-
--- the loop has copied them all
-pub copied : (out₀ out bytes : List ℕ) (i : ℕ) → length bytes ≤ i → i ≤ length bytes → length bytes ≤ length out₀ → Filling out₀ out i (drop i bytes) bytes
-    → (value out (length bytes) ≡ put_bytes out₀ bytes) × (out ≡ left out₀ (put_bytes out₀ bytes))
-copied out₀ out bytes i h k l f =
-    let e : i ≡ length bytes = omega arith in
-    let g : Filling out₀ out (length bytes) [] bytes = rw (e, drop-length bytes) at f in
-    let w : put_bytes out₀ bytes ≡ value out (length bytes) = out-fits out₀ bytes l ∙ rw (finish g).1 in
-    wrote out₀ w
-
 -- a call that answers and leaves what another does
 pub answered-as : (out : List ℕ) {a o w : Outcome (List ℕ)} {last : List ℕ} → w ≡ o → (a ≡ o) × (last ≡ left out o) → (a ≡ w) × (last ≡ left out w)
 answered-as out e h = (h.0 ∙ sym e, h.1 ∙ ap (left out) (sym e))
+
+-- what the exit of a `?` returns is the refusal that it met
+pub answer-exit : (out : List ℕ) (r : Result ℕ Refusal) (why : Refusal) {o : Outcome (List ℕ)} {last : List ℕ} → IsErrAnd r (λ e. e ≡ why) → (refused (number why) ≡ o) × (last ≡ left out o)
+    → (outcome_written r last ≡ o) × (last ≡ left out o)
+answer-exit out r why h e = let p = err_from_is_err_and r h in (rw (p.1, p.2) e.0, e.1)
 
 -- ---- a unit
 
@@ -199,9 +195,3 @@ module _ (set : VvcAps) (out : List ℕ) where
     pub nal-bytes : (type : ℕ) → is_aps type ≡ true → length l ≤ 65536 → write_aps_nal set type out ≡ write_nal l type out
     unfolding write_aps_nal
     nal-bytes type t h = rw t (ap (λ (o : Outcome (List ℕ)). o then λ bytes n. put_bytes out (unit_of type bytes)) (sym e)) ∙ sym (unit-due out l type t h)
-
--- a list has as many elements as can be taken from it
-pub taken-within : (n : ℕ) (l : List ℕ) → length (take n l) ≡ n → n ≤ length l
-taken-within zero l e = omega arith
-taken-within (suc n) [] e = absurd (omega arith)
-taken-within (suc n) (x ∷ l) e = let h = taken-within n l (omega arith) in omega arith

@@ -7,6 +7,7 @@ pub mod ScalingSyntax
 pub mod ApsSyntax
 pub mod Rbsp
 pub mod Reads
+pub mod ScalingStore
 pub mod Unit
 pub mod Reading
 pub mod Writing

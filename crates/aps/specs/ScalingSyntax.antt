@@ -136,8 +136,11 @@ abbrev pub tabulate : {A : Type 0} → ℕ → ℕ → (ℕ → A) → List A
 tabulate i zero f = []
 tabulate i (suc n) f = f i ∷ tabulate (suc i) n f
 
-unfoldable pub look : Bool → VvcScalingListData → List Entry
-look chroma d =
-    tabulate 0 28 λ id.
+-- what is looked at of an id
+abbrev pub looked_at : Bool → VvcScalingListData → ℕ → Entry
+looked_at chroma d id =
     looked chroma id (get_or d.copy_mode_flag id true) (get_or d.pred_mode_flag id false) (get_or d.pred_id_delta id 0)
     (get_or d.dc_coef (id - 14) (pos 0)) (take 64 (drop (id * 64) d.scaling_list))
+
+unfoldable pub look : Bool → VvcScalingListData → List Entry
+look chroma d = tabulate 0 28 (looked_at chroma d)

@@ -1,5 +1,5 @@
 -- For the proofs' sake: what the inner writers promise each other on the way. No public contract says anything of this file.
-use Rattle.std.specs.Prelude.{◌≡◌, Bool, true, false, cond, List, ℕ, ◌+◌, length, Result, Ok, Err}
+use Rattle.std.specs.Prelude.{◌≡◌, Bool, true, false, cond, List, ℕ, ◌+◌, ◌/◌, length, take, Result, Ok, Err}
 use Rattle.bitstream.specs.Outcome.{Outcome, value, refused, number}
 use Rattle.bitstream.specs.Bits.{put_bits}
 use Rattle.bitstream.specs.declared.Refusal.{Refusal}
@@ -16,6 +16,11 @@ module _ {A : Type 0} where
 abbrev pub written : Result (Unit {0}) Refusal → Writer → Outcome (List ℕ)
 written (Ok x) w = value w.buffer w.at
 written (Err e) w = refused (number e)
+
+-- what the writing of an RBSP gives: its bytes and how many they are, or the refusal's number
+abbrev pub closed : Result (Unit {0}) Refusal → Writer → Outcome (List ℕ)
+closed (Ok x) w = value (take (w.at / 8) w.buffer) (w.at / 8)
+closed (Err e) w = refused (number e)
 
 -- from one state of the writer to the next a was written so; 2: a is not taken
 pub record Wrote {A : Type 0} (c : Codec A) (a : A) (before after : Writer) (r : Result (Unit {0}) Refusal) : Type 0 where

@@ -1,15 +1,12 @@
 // alf_data(), H.266 7.3.2.18.
-ghost use Rattle.std.specs.Prelude.{◌≡◌, false, ◌||◌, ◌*◌, ◌≤◌, length, replicate};
-ghost use Rattle.bitstream.specs.Outcome.{map_outcome};
-ghost use Rattle.aps.specs.AlfSyntax.{luma, to_luma, no_luma};
-ghost use Rattle.aps.specs.AlfSyntax.{chroma, to_chroma, no_chroma, cc, to_cc, no_cc};
-ghost use Rattle.aps.specs.AlfSyntax.{alf, alf_filters, to_alf};
+ghost use Rattle.std.specs.Prelude.{◌≡◌, ◌||◌};
+ghost use Rattle.aps.specs.AlfSyntax.{to_luma, no_luma, to_chroma, no_chroma, to_cc, no_cc, alf, alf_filters};
 ghost use Rattle.aps.specs.ApsSyntax.{zero_alf};
-ghost use Rattle.aps.specs.Inner.{outcome_stop, after, StopsBy, luma_of, chroma_of, cc_of, alf_of, no_alf, no_filters, alf_after};
+ghost use Rattle.aps.specs.Reads.{Reads, filled};
 
 use crate::alf_chroma::{read_cc, read_chroma};
 use crate::alf_luma::read_luma;
-use crate::fields::{Stop, lacks_bits, read_flag};
+use crate::reader::Reader;
 use bitstream::Refusal;
 use bitstream::short_codes::CodeTable;
 
@@ -52,35 +49,6 @@ pub struct VvcAlfData {
     pub chroma: VvcAlfChroma,
     pub cc_cb: VvcAlfCcFilters,
     pub cc_cr: VvcAlfCcFilters,
-}
-
-// What reading gives beside the arrays that it fills: with a stop that is an end they hold what was read.
-#[derive(Clone, Copy)]
-pub(crate) struct FiltersRead {
-    pub(crate) stop: Stop,
-    pub(crate) clip: bool,
-    pub(crate) count_minus1: u32,
-}
-
-#[derive(Clone, Copy)]
-pub(crate) struct CcRead {
-    pub(crate) stop: Stop,
-    pub(crate) count_minus1: u32,
-}
-
-#[derive(Clone, Copy)]
-pub(crate) struct AlfRead {
-    pub(crate) stop: Stop,
-    pub(crate) luma: bool,
-    pub(crate) chroma: bool,
-    pub(crate) cb: bool,
-    pub(crate) cr: bool,
-    pub(crate) luma_clip: bool,
-    pub(crate) luma_count_minus1: u32,
-    pub(crate) chroma_clip: bool,
-    pub(crate) chroma_count_minus1: u32,
-    pub(crate) cb_count_minus1: u32,
-    pub(crate) cr_count_minus1: u32,
 }
 
 // What is inferred where nothing is sent.
@@ -134,317 +102,54 @@ pub(crate) fn zero_alf() -> VvcAlfData
     }
 }
 
-// The luma filters if they are signalled.
-fn read_luma_if(
-    bytes: &[u8],
-    codes: &CodeTable,
-    p: usize,
-    signal: bool,
-    idx: &mut [u8; 25],
-    abs: &mut [u32; 300],
-    sign: &mut [bool; 300],
-    clip: &mut [u8; 300],
-) -> FiltersRead
-    requires { (length bytes.now ≤ 65536) × (p ≤ length bytes.now * 8)
-        × (idx.old ≡ replicate 25 0) × (abs.old ≡ replicate 300 0) × (sign.old ≡ replicate 300 false) × (clip.old ≡ replicate 300 0) }
-    ensures { outcome_stop result.stop
-        (luma_of result.clip result.count_minus1 idx.new abs.new sign.new clip.new)
-        ≡ (luma signal).read bytes.now p }
-{
-    if signal {
-        return read_luma(bytes, codes, p, idx, abs, sign, clip);
-    }
-    FiltersRead {
-        stop: Stop::End(p),
-        clip: false,
-        count_minus1: 0,
-    }
-}
-
-// The chroma filters if they are signalled.
-fn read_chroma_if(
-    bytes: &[u8],
-    codes: &CodeTable,
-    from: Stop,
-    signal: bool,
-    abs: &mut [u32; 48],
-    sign: &mut [bool; 48],
-    clip: &mut [u8; 48],
-) -> FiltersRead
-    requires { (length bytes.now ≤ 65536) × StopsBy from (length bytes.now * 8)
-        × (abs.old ≡ replicate 48 0) × (sign.old ≡ replicate 48 false) × (clip.old ≡ replicate 48 0) }
-    ensures { outcome_stop result.stop (chroma_of result.clip result.count_minus1 abs.new sign.new clip.new)
-        ≡ after from λ p. (chroma signal).read bytes.now p }
-{
-    match from {
-        Stop::End(p) => {
-            if signal {
-                return read_chroma(bytes, codes, p, abs, sign, clip);
-            }
-            FiltersRead {
-                stop: Stop::End(p),
-                clip: false,
-                count_minus1: 0,
-            }
-        }
-        Stop::Refused(why) => FiltersRead {
-            stop: Stop::Refused(why),
-            clip: false,
-            count_minus1: 0,
-        },
-    }
-}
-
-// The filters of Cb or Cr if they are signalled.
-fn read_cc_if(
-    bytes: &[u8],
-    codes: &CodeTable,
-    from: Stop,
-    signal: bool,
-    abs: &mut [u8; 28],
-    sign: &mut [bool; 28],
-) -> CcRead
-    requires { (length bytes.now ≤ 65536) × StopsBy from (length bytes.now * 8)
-        × (abs.old ≡ replicate 28 0) × (sign.old ≡ replicate 28 false) }
-    ensures { outcome_stop result.stop (cc_of result.count_minus1 abs.new sign.new)
-        ≡ after from λ p. (cc signal).read bytes.now p }
-{
-    match from {
-        Stop::End(p) => {
-            if signal {
-                return read_cc(bytes, codes, p, abs, sign);
-            }
-            CcRead {
-                stop: Stop::End(p),
-                count_minus1: 0,
-            }
-        }
-        Stop::Refused(why) => CcRead {
-            stop: Stop::Refused(why),
-            count_minus1: 0,
-        },
-    }
-}
-
-// No filters, for this reason.
-pub(crate) fn no_alf(why: Refusal) -> AlfRead
-    ensures { result ≡ no_alf why }
-{
-    no_filters(Stop::Refused(why))
-}
-
-// No filters, where the reading stopped.
-fn no_filters(stop: Stop) -> AlfRead
-    ensures { result ≡ no_filters stop }
-{
-    AlfRead {
-        stop,
-        luma: false,
-        chroma: false,
-        cb: false,
-        cr: false,
-        luma_clip: false,
-        luma_count_minus1: 0,
-        chroma_clip: false,
-        chroma_count_minus1: 0,
-        cb_count_minus1: 0,
-        cr_count_minus1: 0,
-    }
-}
-
 // One of the four flags is set.
 fn is_any(luma: bool, chroma: bool, cb: bool, cr: bool) -> bool
     ensures { result ≡ (luma || (chroma || (cb || cr))) }
 {
-    if luma {
-        return true;
-    }
-    if chroma {
-        return true;
-    }
-    if cb {
-        return true;
-    }
-    cr
+    luma || chroma || cb || cr
 }
 
 // What the four flags announce; without any of them there is no code to read.
-fn read_alf_filters(
-    bytes: &[u8],
-    p: usize,
-    luma: bool,
-    chroma: bool,
-    cb: bool,
-    cr: bool,
-    luma_idx: &mut [u8; 25],
-    luma_abs: &mut [u32; 300],
-    luma_sign: &mut [bool; 300],
-    luma_clip: &mut [u8; 300],
-    chroma_abs: &mut [u32; 48],
-    chroma_sign: &mut [bool; 48],
-    chroma_clip: &mut [u8; 48],
-    cb_abs: &mut [u8; 28],
-    cb_sign: &mut [bool; 28],
-    cr_abs: &mut [u8; 28],
-    cr_sign: &mut [bool; 28],
-) -> AlfRead
-    requires { (length bytes.now ≤ 65536) × (p ≤ length bytes.now * 8)
-        × (luma_idx.old ≡ replicate 25 0) × (luma_abs.old ≡ replicate 300 0) × (luma_sign.old ≡ replicate 300 false)
-        × (luma_clip.old ≡ replicate 300 0)
-        × (chroma_abs.old ≡ replicate 48 0) × (chroma_sign.old ≡ replicate 48 false) × (chroma_clip.old ≡ replicate 48 0)
-        × (cb_abs.old ≡ replicate 28 0) × (cb_sign.old ≡ replicate 28 false)
-        × (cr_abs.old ≡ replicate 28 0) × (cr_sign.old ≡ replicate 28 false) }
-    ensures { outcome_stop result.stop (alf_of result
-        luma_idx.new luma_abs.new luma_sign.new luma_clip.new
-        chroma_abs.new chroma_sign.new chroma_clip.new
-        cb_abs.new cb_sign.new cr_abs.new cr_sign.new)
-        ≡ map_outcome (λ x. to_alf (luma, (chroma, (cb, (cr, x))))) ((alf_filters luma chroma cb cr).read bytes.now p) }
+fn read_alf_filters(reader: &mut Reader, d: &mut VvcAlfData) -> Result<(), Refusal>
+    requires { (d.old.luma ≡ to_luma no_luma.default) × (d.old.chroma ≡ to_chroma no_chroma.default)
+        × (d.old.cc_cb ≡ to_cc no_cc.default) × (d.old.cc_cr ≡ to_cc no_cc.default) }
+    ensures filters { Reads (alf_filters
+        d.old.alf_luma_filter_signal_flag d.old.alf_chroma_filter_signal_flag
+        d.old.alf_cc_cb_filter_signal_flag d.old.alf_cc_cr_filter_signal_flag)
+        (filled result (d.new.luma, (d.new.chroma, (d.new.cc_cb, d.new.cc_cr))) reader.new.at) reader.old reader.new }
+    ensures flags { (d.new.alf_luma_filter_signal_flag ≡ d.old.alf_luma_filter_signal_flag)
+        × (d.new.alf_chroma_filter_signal_flag ≡ d.old.alf_chroma_filter_signal_flag)
+        × (d.new.alf_cc_cb_filter_signal_flag ≡ d.old.alf_cc_cb_filter_signal_flag)
+        × (d.new.alf_cc_cr_filter_signal_flag ≡ d.old.alf_cc_cr_filter_signal_flag) }
 {
+    let luma = d.alf_luma_filter_signal_flag;
+    let chroma = d.alf_chroma_filter_signal_flag;
+    let cb = d.alf_cc_cb_filter_signal_flag;
+    let cr = d.alf_cc_cr_filter_signal_flag;
     if !is_any(luma, chroma, cb, cr) {
-        return no_filters(Stop::End(p));
+        return Ok(());
     }
     let codes = CodeTable::new();
-    let l = read_luma_if(
-        bytes, &codes, p, luma, luma_idx, luma_abs, luma_sign, luma_clip,
-    );
-    let luma_stop = l.stop;
-    let c = read_chroma_if(
-        bytes,
-        &codes,
-        luma_stop,
-        chroma,
-        chroma_abs,
-        chroma_sign,
-        chroma_clip,
-    );
-    let chroma_stop = c.stop;
-    let b = read_cc_if(bytes, &codes, chroma_stop, cb, cb_abs, cb_sign);
-    let cb_stop = b.stop;
-    let r = read_cc_if(bytes, &codes, cb_stop, cr, cr_abs, cr_sign);
-    let stop = r.stop;
-    AlfRead {
-        stop,
-        luma,
-        chroma,
-        cb,
-        cr,
-        luma_clip: l.clip,
-        luma_count_minus1: l.count_minus1,
-        chroma_clip: c.clip,
-        chroma_count_minus1: c.count_minus1,
-        cb_count_minus1: b.count_minus1,
-        cr_count_minus1: r.count_minus1,
-    }
-}
-
-// The four flags.
-#[derive(Clone, Copy)]
-struct Signals {
-    stop: Stop,
-    luma: bool,
-    chroma: bool,
-    cb: bool,
-    cr: bool,
-}
-
-fn no_signals(why: Refusal) -> Signals
-    ensures { result.stop ≡ Stop.Refused why }
-{
-    Signals {
-        stop: Stop::Refused(why),
-        luma: false,
-        chroma: false,
-        cb: false,
-        cr: false,
-    }
-}
-
-// The flag of luma, and where chroma is present the other three.
-fn read_signals(bytes: &[u8], p: usize, chroma: bool) -> Signals
-    requires { (length bytes.now ≤ 65536) × (p ≤ length bytes.now * 8) }
-    ensures { (alf_after result bytes.now ≡ (alf chroma).read bytes.now p)
-        × StopsBy result.stop (length bytes.now * 8) }
-{
-    if chroma {
-        if lacks_bits(bytes, p, 4) {
-            return no_signals(Refusal::UnexpectedEnd);
-        }
-        let luma = read_flag(bytes, p);
-        let filters = read_flag(bytes, p + 1);
-        let cb = read_flag(bytes, p + 2);
-        let cr = read_flag(bytes, p + 3);
-        return Signals {
-            stop: Stop::End(p + 4),
-            luma,
-            chroma: filters,
-            cb,
-            cr,
-        };
-    }
-    if lacks_bits(bytes, p, 1) {
-        return no_signals(Refusal::UnexpectedEnd);
-    }
-    let luma = read_flag(bytes, p);
-    Signals {
-        stop: Stop::End(p + 1),
-        luma,
-        chroma: false,
-        cb: false,
-        cr: false,
-    }
+    read_luma(reader, &codes, luma, &mut d.luma)?;
+    read_chroma(reader, &codes, chroma, &mut d.chroma)?;
+    read_cc(reader, &codes, cb, &mut d.cc_cb)?;
+    read_cc(reader, &codes, cr, &mut d.cc_cr)?;
+    Ok(())
 }
 
 // alf_data().
 pub(crate) fn parse_alf_data(
-    bytes: &[u8],
-    p: usize,
+    reader: &mut Reader,
     chroma: bool,
-    luma_idx: &mut [u8; 25],
-    luma_abs: &mut [u32; 300],
-    luma_sign: &mut [bool; 300],
-    luma_clip: &mut [u8; 300],
-    chroma_abs: &mut [u32; 48],
-    chroma_sign: &mut [bool; 48],
-    chroma_clip: &mut [u8; 48],
-    cb_abs: &mut [u8; 28],
-    cb_sign: &mut [bool; 28],
-    cr_abs: &mut [u8; 28],
-    cr_sign: &mut [bool; 28],
-) -> AlfRead
-    requires { (length bytes.now ≤ 65536) × (p ≤ length bytes.now * 8)
-        × (luma_idx.old ≡ replicate 25 0) × (luma_abs.old ≡ replicate 300 0) × (luma_sign.old ≡ replicate 300 false)
-        × (luma_clip.old ≡ replicate 300 0)
-        × (chroma_abs.old ≡ replicate 48 0) × (chroma_sign.old ≡ replicate 48 false) × (chroma_clip.old ≡ replicate 48 0)
-        × (cb_abs.old ≡ replicate 28 0) × (cb_sign.old ≡ replicate 28 false)
-        × (cr_abs.old ≡ replicate 28 0) × (cr_sign.old ≡ replicate 28 false) }
-    ensures { outcome_stop result.stop (alf_of result
-        luma_idx.new luma_abs.new luma_sign.new luma_clip.new
-        chroma_abs.new chroma_sign.new chroma_clip.new
-        cb_abs.new cb_sign.new cr_abs.new cr_sign.new)
-        ≡ (alf chroma).read bytes.now p }
+    d: &mut VvcAlfData,
+) -> Result<(), Refusal>
+    requires { d.old ≡ zero_alf }
+    ensures { Reads (alf chroma) (filled result d.new reader.new.at) reader.old reader.new }
 {
-    let signals = read_signals(bytes, p, chroma);
-    let stop = signals.stop;
-    match stop {
-        Stop::End(q) => read_alf_filters(
-            bytes,
-            q,
-            signals.luma,
-            signals.chroma,
-            signals.cb,
-            signals.cr,
-            luma_idx,
-            luma_abs,
-            luma_sign,
-            luma_clip,
-            chroma_abs,
-            chroma_sign,
-            chroma_clip,
-            cb_abs,
-            cb_sign,
-            cr_abs,
-            cr_sign,
-        ),
-        Stop::Refused(why) => no_alf(why),
-    }
+    d.alf_luma_filter_signal_flag = reader.flag()?;
+    d.alf_chroma_filter_signal_flag = reader.flag_if(chroma)?;
+    d.alf_cc_cb_filter_signal_flag = reader.flag_if(chroma)?;
+    d.alf_cc_cr_filter_signal_flag = reader.flag_if(chroma)?;
+    read_alf_filters(reader, d)?;
+    Ok(())
 }

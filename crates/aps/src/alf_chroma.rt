@@ -1,178 +1,128 @@
 // The chroma and cross-component filters of alf_data().
-ghost use Rattle.std.specs.Prelude.{◌≡◌, true, false, ◌*◌, ◌≤◌, ◌<◌, length, replicate};
-ghost use Rattle.std.proofs.lemmas.List.Edits.{sets};
-ghost use Rattle.bitstream.specs.Outcome.{map_outcome};
+ghost use Rattle.std.specs.Prelude.{◌≡◌, true, false, ◌≤◌, length, replicate};
 ghost use Rattle.aps.specs.Elements.{zipped};
-ghost use Rattle.aps.specs.AlfSyntax.{chroma, alternative, alternatives, chroma_arrays, cc, cc_coefficients};
-ghost use Rattle.aps.specs.Inner.{outcome_stop, chroma_of, cc_of};
+ghost use Rattle.aps.specs.AlfSyntax.{chroma, no_chroma, to_chroma, alternative, alternatives, chroma_arrays};
+ghost use Rattle.aps.specs.AlfSyntax.{cc, no_cc, to_cc, cc_coefficients};
+ghost use Rattle.aps.specs.Reads.{Reads, filled};
 
-use crate::alf::{CcRead, FiltersRead};
-use crate::alf_fields::{clips_sent, read_clips, read_coefficients, read_filters_head, read_ue_to};
-use crate::fields::{FieldU, Stop};
-use crate::windows::{held_signed, window_at};
+use crate::alf::{VvcAlfCcFilters, VvcAlfChroma};
+use crate::alf_fields::{clips_sent, read_clips, read_coefficients};
+use crate::reader::Reader;
 use bitstream::Refusal;
 use bitstream::short_codes::CodeTable;
 
-// One alternative: its coefficients and its clips.
-#[derive(Clone, Copy)]
-struct Alternative {
-    stop: Stop,
-    abs: [u32; 6],
-    sign: [bool; 6],
-    clip: [u8; 6],
-}
-
-// Alternatives that are sent are read alike, whichever it is and however many there are.
-fn read_alternative(bytes: &[u8], codes: &CodeTable, p: usize, clip: bool) -> Alternative
-    requires { (length bytes.now ≤ 65536) × (p ≤ length bytes.now * 8) }
-    ensures { outcome_stop result.stop (zipped result.abs result.sign, result.clip) ≡ (alternative clip 0 0).read bytes.now p }
-{
-    let mut abs = [0u32; 6];
-    let mut sign = [false; 6];
-    let mut clips = [0u8; 6];
-    let coefficients = read_coefficients(bytes, codes, Stop::End(p), 6, &mut abs, &mut sign);
-    let stop = read_clips(bytes, coefficients, clips_sent(clip, 6), &mut clips);
-    Alternative {
-        stop,
-        abs,
-        sign,
-        clip: clips,
-    }
-}
-
-// An alternative stored as a row of the flat arrays.
-fn keep_alternative(
-    from: Alternative,
-    row: usize,
-    abs: &mut [u32; 48],
-    sign: &mut [bool; 48],
-    clip: &mut [u8; 48],
-)
-    requires { row < 8 }
-    ensures { (abs.new ≡ sets abs.old (6 * row) from.abs)
-        × (sign.new ≡ sets sign.old (6 * row) from.sign)
-        × (clip.new ≡ sets clip.old (6 * row) from.clip) }
-{
-    let mut j: usize = 0;
-    while j < 6 {
-        let i = 6 * row + j;
-        abs[i] = from.abs[j];
-        sign[i] = from.sign[j];
-        clip[i] = from.clip[j];
-        j += 1;
-    }
-}
-
-// The alternatives, one after another.
-fn read_alternatives(
-    bytes: &[u8],
+// One alternative: its coefficients, and at once its clips. Those that are sent are read alike, whichever it is and however many there are.
+fn read_alternative(
+    reader: &mut Reader,
     codes: &CodeTable,
-    p: usize,
+    clip: bool,
+    abs: &mut [u32],
+    sign: &mut [bool],
+    clips: &mut [u8],
+) -> Result<(), Refusal>
+    requires { (abs.old ≡ replicate 6 0) × (sign.old ≡ replicate 6 false) × (clips.old ≡ replicate 6 0) }
+    ensures { Reads (alternative clip 0 0) (filled result (zipped abs.new sign.new, clips.new) reader.new.at) reader.old reader.new }
+{
+    read_coefficients(reader, codes, 6, abs, sign)?;
+    read_clips(reader, clips_sent(clip, 1), clips)?;
+    Ok(())
+}
+
+// The alternatives, one after another: each is a row of the arrays.
+fn read_alternatives(
+    reader: &mut Reader,
+    codes: &CodeTable,
     clip: bool,
     count_minus1: u32,
     abs: &mut [u32; 48],
     sign: &mut [bool; 48],
     clips: &mut [u8; 48],
-) -> Stop
-    requires { (length bytes.now ≤ 65536) × (p ≤ length bytes.now * 8) × (count_minus1 ≤ 7)
-        × (abs.old ≡ replicate 48 0) × (sign.old ≡ replicate 48 false) × (clips.old ≡ replicate 48 0) }
-    ensures { outcome_stop result (abs.new, (sign.new, clips.new))
-        ≡ map_outcome chroma_arrays ((alternatives clip count_minus1).read bytes.now p) }
+) -> Result<(), Refusal>
+    requires { (count_minus1 ≤ 7) × (abs.old ≡ replicate 48 0) × (sign.old ≡ replicate 48 false) × (clips.old ≡ replicate 48 0) }
+    ensures field { Reads (alternatives clip count_minus1) (filled result (zipped abs.new sign.new, clips.new) reader.new.at) reader.old reader.new }
+    ensures sizes { (length abs.new ≡ 48) × (length sign.new ≡ 48) }
 {
-    let mut at = p;
-    let mut row: usize = 0;
-    while row <= count_minus1 as usize {
-        let alternative = read_alternative(bytes, codes, at, clip);
-        let stop = alternative.stop;
-        at = match stop {
-            Stop::End(q) => q,
-            Stop::Refused(why) => return Stop::Refused(why),
-        };
-        keep_alternative(alternative, row, abs, sign, clips);
-        row += 1;
+    for row in 0..count_minus1 as usize + 1 {
+        let i = 6 * row;
+        read_alternative(
+            reader,
+            codes,
+            clip,
+            &mut abs[i..i + 6],
+            &mut sign[i..i + 6],
+            &mut clips[i..i + 6],
+        )?;
     }
-    Stop::End(at)
+    Ok(())
 }
 
-// The chroma filters.
+// The chroma filters, if they are signalled.
 pub(crate) fn read_chroma(
-    bytes: &[u8],
+    reader: &mut Reader,
     codes: &CodeTable,
-    p: usize,
-    abs: &mut [u32; 48],
-    sign: &mut [bool; 48],
-    clips: &mut [u8; 48],
-) -> FiltersRead
-    requires { (length bytes.now ≤ 65536) × (p ≤ length bytes.now * 8)
-        × (abs.old ≡ replicate 48 0) × (sign.old ≡ replicate 48 false) × (clips.old ≡ replicate 48 0) }
-    ensures { outcome_stop result.stop (chroma_of result.clip result.count_minus1 abs.new sign.new clips.new)
-        ≡ (chroma true).read bytes.now p }
+    signal: bool,
+    filters: &mut VvcAlfChroma,
+) -> Result<(), Refusal>
+    requires { (filters.old ≡ to_chroma no_chroma.default) }
+    ensures { Reads (chroma signal) (filled result filters.new reader.new.at) reader.old reader.new }
 {
-    let head = read_filters_head(bytes, codes, p, 7);
-    let clip = head.clip;
-    let count_minus1 = head.count_minus1;
-    let at = head.stop;
-    let q = match at {
-        Stop::End(q) => q,
-        Stop::Refused(_) => return head,
-    };
-    let stop = read_alternatives(bytes, codes, q, clip, count_minus1, abs, sign, clips);
-    FiltersRead {
-        stop,
+    if !signal {
+        return Ok(());
+    }
+    let clip = reader.flag()?;
+    let count_minus1 = reader.ue_to(codes, 7)?;
+    filters.alf_chroma_clip_flag = clip;
+    filters.alf_chroma_num_alt_filters_minus1 = count_minus1;
+    read_alternatives(
+        reader,
+        codes,
         clip,
         count_minus1,
-    }
+        &mut filters.coeff_abs,
+        &mut filters.coeff_sign,
+        &mut filters.clip_idx,
+    )?;
+    Ok(())
 }
 
 // The coefficients of Cb or Cr.
 fn read_cc_coefficients(
-    bytes: &[u8],
-    p: usize,
+    reader: &mut Reader,
     count_minus1: u32,
     abs: &mut [u8; 28],
     sign: &mut [bool; 28],
-) -> Stop
-    requires { (length bytes.now ≤ 65536) × (p ≤ length bytes.now * 8) × (count_minus1 ≤ 3)
-        × (abs.old ≡ replicate 28 0) × (sign.old ≡ replicate 28 false) }
-    ensures { outcome_stop result (abs.new, sign.new) ≡ (cc_coefficients count_minus1).read bytes.now p }
+) -> Result<(), Refusal>
+    requires { (count_minus1 ≤ 3) × (abs.old ≡ replicate 28 0) × (sign.old ≡ replicate 28 false) }
+    ensures { Reads (cc_coefficients count_minus1) (filled result (abs.new, sign.new) reader.new.at) reader.old reader.new }
 {
-    let n = 7 * (count_minus1 as usize + 1);
-    let mut held = window_at(bytes, p);
-    let mut i: usize = 0;
-    while i < n {
-        let field = held_signed(bytes, held, 3);
-        held = field.next;
-        if bytes.len() * 8 < held.at {
-            return Stop::Refused(Refusal::UnexpectedEnd);
-        }
-        abs[i] = field.abs as u8;
-        sign[i] = field.sign;
-        i += 1;
+    for i in 0..7 * (count_minus1 as usize + 1) {
+        let (magnitude, negative) = reader.signed(3)?;
+        abs[i] = magnitude as u8;
+        sign[i] = negative;
     }
-    Stop::End(held.at)
+    Ok(())
 }
 
-// The filters of Cb or Cr.
+// The filters of Cb or Cr, if they are signalled.
 pub(crate) fn read_cc(
-    bytes: &[u8],
+    reader: &mut Reader,
     codes: &CodeTable,
-    p: usize,
-    abs: &mut [u8; 28],
-    sign: &mut [bool; 28],
-) -> CcRead
-    requires { (length bytes.now ≤ 65536) × (p ≤ length bytes.now * 8) × (abs.old ≡ replicate 28 0) × (sign.old ≡ replicate 28 false) }
-    ensures { outcome_stop result.stop (cc_of result.count_minus1 abs.new sign.new)
-        ≡ (cc true).read bytes.now p }
+    signal: bool,
+    filters: &mut VvcAlfCcFilters,
+) -> Result<(), Refusal>
+    requires { (filters.old ≡ to_cc no_cc.default) }
+    ensures { Reads (cc signal) (filled result filters.new reader.new.at) reader.old reader.new }
 {
-    let count = read_ue_to(bytes, codes, p, 3);
-    match count {
-        FieldU::Value(count_minus1, r) => {
-            let stop = read_cc_coefficients(bytes, r.bit_pos, count_minus1, abs, sign);
-            CcRead { stop, count_minus1 }
-        }
-        FieldU::Refused(why) => CcRead {
-            stop: Stop::Refused(why),
-            count_minus1: 0,
-        },
+    if !signal {
+        return Ok(());
     }
+    let count_minus1 = reader.ue_to(codes, 3)?;
+    filters.filters_signalled_minus1 = count_minus1;
+    read_cc_coefficients(
+        reader,
+        count_minus1,
+        &mut filters.mapped_coeff_abs,
+        &mut filters.coeff_sign,
+    )?;
+    Ok(())
 }

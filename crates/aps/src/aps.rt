@@ -1,15 +1,15 @@
 // adaptation_parameter_set_rbsp(), H.266 7.3.2.6. After src/h266/aps.rs.
 ghost use Rattle.std.specs.Prelude.{◌≡◌};
-ghost use Rattle.aps.specs.Inner.{Opens, assembled};
+ghost use Rattle.aps.specs.Inner.{Names, Opens, assembled};
 ghost use Rattle.aps.specs.Rbsp.{parse_aps_rbsp};
 ghost use Rattle.aps.specs.ApsSyntax.{empty_set, number_of, zero_alf, zero_lmcs, zero_scaling};
 ghost use Rattle.aps.specs.Reading.{outcome_read, outcome_aps, set_given, head_of};
 
 use crate::alf::{VvcAlfData, zero_alf};
 use crate::alf_set::{AlfReading, alf_alone, alf_head};
-use crate::fields::{lacks_bits, read_flag, read_u};
 use crate::lmcs::{VvcLmcsData, zero_lmcs};
 use crate::lmcs_set::{LmcsReading, lmcs_alone, lmcs_head};
+use crate::reader::Reader;
 use crate::scaling_list::{VvcScalingListData, zero_scaling};
 use crate::scaling_set::{ScalingReading, scaling_alone, scaling_head};
 use bitstream::{LONGEST_INPUT, Refusal};
@@ -157,37 +157,41 @@ pub(crate) fn refuse_head(why: Refusal) -> HeadReading
     }
 }
 
-// The kind that the first bits name, with id and chroma flag, or why there is no set.
-#[derive(Clone, Copy)]
-pub(crate) enum Opening {
-    Alf { id: u8, chroma: bool },
-    Lmcs { id: u8, chroma: bool },
-    Scaling { id: u8, chroma: bool },
-    Refused(Refusal),
+// The kind of a number.
+fn kind_of(number: u32) -> Result<ApsKind, Refusal>
+    ensures { Names number result }
+{
+    if number == Alf::NUMBER as u32 {
+        return Ok(ApsKind::Alf);
+    }
+    if number == Lmcs::NUMBER as u32 {
+        return Ok(ApsKind::Lmcs);
+    }
+    if number == Scaling::NUMBER as u32 {
+        return Ok(ApsKind::Scaling);
+    }
+    Err(Refusal::Unsupported)
 }
 
-pub(crate) fn open_rbsp(bytes: &[u8]) -> Opening
+// What stands before the payload, with the extension flag still to be read, and the reader of what follows.
+pub(crate) fn open_rbsp(bytes: &[u8]) -> Result<(Reader<'_>, ApsHead), Refusal>
     ensures { Opens bytes.now result }
 {
     if LONGEST_INPUT < bytes.len() {
-        return Opening::Refused(Refusal::InputTooLong);
+        return Err(Refusal::InputTooLong);
     }
-    if lacks_bits(bytes, 0, 9) {
-        return Opening::Refused(Refusal::UnexpectedEnd);
-    }
-    let kind = read_u(bytes, 0, 3) as u8;
-    let id = read_u(bytes, 3, 5) as u8;
-    let chroma = read_flag(bytes, 8);
-    if kind == Alf::NUMBER {
-        return Opening::Alf { id, chroma };
-    }
-    if kind == Lmcs::NUMBER {
-        return Opening::Lmcs { id, chroma };
-    }
-    if kind == Scaling::NUMBER {
-        return Opening::Scaling { id, chroma };
-    }
-    Opening::Refused(Refusal::Unsupported)
+    let mut reader = Reader::new(bytes, 0);
+    let number = reader.u(3, 8)?;
+    let id = reader.u(5, 8)?;
+    let chroma = reader.flag()?;
+    let kind = kind_of(number)?;
+    let head = ApsHead {
+        kind,
+        aps_adaptation_parameter_set_id: id as u8,
+        aps_chroma_present_flag: chroma,
+        aps_extension_flag: false,
+    };
+    Ok((reader, head))
 }
 
 // The set of a kind, with the other arrays 0.
@@ -260,10 +264,12 @@ pub fn parse_aps_rbsp(bytes: &[u8]) -> ApsReading
     ensures set { result.set ≡ set_given (parse_aps_rbsp bytes.now) }
 {
     match open_rbsp(bytes) {
-        Opening::Alf { id, chroma } => with_alf(alf_alone(bytes, id, chroma)),
-        Opening::Lmcs { id, chroma } => with_lmcs(lmcs_alone(bytes, id, chroma)),
-        Opening::Scaling { id, chroma } => with_scaling(scaling_alone(bytes, id, chroma)),
-        Opening::Refused(why) => refuse(why),
+        Ok((reader, head)) => match head.kind {
+            ApsKind::Alf => with_alf(alf_alone(reader, head)),
+            ApsKind::Lmcs => with_lmcs(lmcs_alone(reader, head)),
+            ApsKind::Scaling => with_scaling(scaling_alone(reader, head)),
+        },
+        Err(why) => refuse(why),
     }
 }
 
@@ -273,9 +279,11 @@ pub fn parse_aps_head(bytes: &[u8]) -> HeadReading
     ensures head { result.head ≡ head_of (set_given (parse_aps_rbsp bytes.now)) }
 {
     match open_rbsp(bytes) {
-        Opening::Alf { id, chroma } => alf_head(bytes, id, chroma),
-        Opening::Lmcs { id, chroma } => lmcs_head(bytes, id, chroma),
-        Opening::Scaling { id, chroma } => scaling_head(bytes, id, chroma),
-        Opening::Refused(why) => refuse_head(why),
+        Ok((reader, head)) => match head.kind {
+            ApsKind::Alf => alf_head(reader, head),
+            ApsKind::Lmcs => lmcs_head(reader, head),
+            ApsKind::Scaling => scaling_head(reader, head),
+        },
+        Err(why) => refuse_head(why),
     }
 }

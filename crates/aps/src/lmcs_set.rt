@@ -1,93 +1,62 @@
 // A set of the luma curve.
-ghost use Rattle.std.specs.Prelude.{◌≡◌, false, ◌≤◌, length, replicate};
-ghost use Rattle.aps.specs.Inner.{no_lmcs, AnswersLmcs, Headed, Heads, ReadsLmcs};
+ghost use Rattle.std.specs.Prelude.{◌≡◌};
+ghost use Rattle.aps.specs.Inner.{Assembles, Heading, Heads, ReadsLmcs, assembled};
 ghost use Rattle.aps.specs.Rbsp.{read_rbsp, parse_aps_rbsp};
-ghost use Rattle.aps.specs.ApsSyntax.{empty_set, zero_alf, zero_lmcs, zero_scaling};
+ghost use Rattle.aps.specs.ApsSyntax.{zero_alf, zero_lmcs, zero_scaling};
 ghost use Rattle.aps.specs.Reading.{outcome_read, set_given, head_of};
+ghost use Rattle.aps.specs.Reads.{filled};
 
 use crate::alf_set::alf_head;
-use crate::aps::{
-    ApsHead, ApsKind, ApsOutcome, HeadReading, Lmcs, Opening, empty_head, open_rbsp, refuse_head,
-};
-use crate::ending::read_ending;
-use crate::fields::Stop;
-use crate::lmcs::{LmcsRead, VvcLmcsData, no_lmcs, parse_lmcs_data, zero_lmcs};
+use crate::aps::{ApsHead, ApsKind, ApsOutcome, HeadReading, Lmcs, open_rbsp, refuse_head};
+use crate::ending::close_rbsp;
+use crate::lmcs::{VvcLmcsData, parse_lmcs_data, zero_lmcs};
+use crate::reader::Reader;
 use crate::scaling_set::scaling_head;
 use bitstream::Refusal;
 
-// The answer for an LMCS set but for the arrays; a refusal's set is the empty set.
-#[derive(Clone, Copy)]
-struct LmcsAnswer {
-    outcome: ApsOutcome,
-    head: ApsHead,
-    read: LmcsRead,
+// An LMCS set after what stands before its payload: its id is judged before its payload.
+fn read_lmcs_set(
+    reader: &mut Reader,
+    head: &mut ApsHead,
+    d: &mut VvcLmcsData,
+) -> Result<(), Refusal>
+    requires { (reader.old.at ≡ 9) × (head.old.kind ≡ ApsKind.Lmcs) × Heading reader.old.bytes.now head.old × (d.old ≡ zero_lmcs) }
+    ensures { filled result (assembled head.new zero_alf d.new zero_scaling) reader.new.at ≡ read_rbsp reader.old.bytes.now }
+{
+    if Lmcs::MAX_ID < head.aps_adaptation_parameter_set_id {
+        return Err(Refusal::InvalidData);
+    }
+    parse_lmcs_data(reader, head.aps_chroma_present_flag, d)?;
+    head.aps_extension_flag = close_rbsp(reader)?;
+    Ok(())
 }
 
-// A refusal leaves the arrays 0.
-fn refuse_lmcs(why: Refusal, abs: &mut [u32; 16], sign: &mut [bool; 16]) -> LmcsAnswer
-    ensures answer { (result.outcome ≡ ApsOutcome.Refused why) × (result.head ≡ head_of empty_set) × (result.read ≡ no_lmcs why) }
-    ensures arrays { (abs.new ≡ replicate 16 0) × (sign.new ≡ replicate 16 false) }
+// The answer but for the curve; a refusal's set is the empty set.
+fn lmcs_answer(mut reader: Reader, mut head: ApsHead, d: &mut VvcLmcsData) -> HeadReading
+    requires { (reader.at ≡ 9) × (head.kind ≡ ApsKind.Lmcs) × Heading reader.bytes.now head × (d.old ≡ zero_lmcs) }
+    ensures { Assembles result.outcome result.head zero_alf d.new zero_scaling reader.entry.bytes.now }
 {
-    *abs = [0; 16];
-    *sign = [false; 16];
-    LmcsAnswer {
-        outcome: ApsOutcome::Refused(why),
-        head: empty_head(),
-        read: no_lmcs(why),
-    }
-}
-
-// An LMCS set: its id is judged before its payload.
-fn lmcs_answer(
-    bytes: &[u8],
-    id: u8,
-    chroma: bool,
-    abs: &mut [u32; 16],
-    sign: &mut [bool; 16],
-) -> LmcsAnswer
-    requires { (length bytes.now ≤ 65536) × Headed bytes.now 1 id chroma × (abs.old ≡ replicate 16 0) × (sign.old ≡ replicate 16 false) }
-    ensures { AnswersLmcs result bytes.now abs.new sign.new }
-{
-    if Lmcs::MAX_ID < id {
-        return refuse_lmcs(Refusal::InvalidData, abs, sign);
-    }
-    let read = parse_lmcs_data(bytes, 9, chroma, abs, sign);
-    let stop = read.stop;
-    match stop {
-        Stop::End(q) => {
-            let ending = read_ending(bytes, q);
-            let end = ending.outcome;
-            match end {
-                ApsOutcome::Read(at) => LmcsAnswer {
-                    outcome: ApsOutcome::Read(at),
-                    head: ApsHead {
-                        kind: ApsKind::Lmcs,
-                        aps_adaptation_parameter_set_id: id,
-                        aps_chroma_present_flag: chroma,
-                        aps_extension_flag: ending.extension,
-                    },
-                    read,
-                },
-                ApsOutcome::Refused(why) => refuse_lmcs(why, abs, sign),
-            }
+    match read_lmcs_set(&mut reader, &mut head, d) {
+        Ok(()) => HeadReading {
+            outcome: ApsOutcome::Read(reader.at()),
+            head,
+        },
+        Err(why) => {
+            *d = zero_lmcs();
+            refuse_head(why)
         }
-        Stop::Refused(why) => refuse_lmcs(why, abs, sign),
     }
 }
 
 // The answer without the arrays.
-pub(crate) fn lmcs_head(bytes: &[u8], id: u8, chroma: bool) -> HeadReading
-    requires { (length bytes.now ≤ 65536) × Headed bytes.now 1 id chroma }
-    ensures answer { Heads result bytes.now }
-    ensures others { ((set_given (read_rbsp bytes.now)).alf ≡ zero_alf)
-        × ((set_given (read_rbsp bytes.now)).scaling ≡ zero_scaling) }
+pub(crate) fn lmcs_head(reader: Reader, head: ApsHead) -> HeadReading
+    requires { (reader.at ≡ 9) × (head.kind ≡ ApsKind.Lmcs) × Heading reader.bytes.now head }
+    ensures answer { Heads result reader.entry.bytes.now }
+    ensures others { ((set_given (read_rbsp reader.entry.bytes.now)).alf ≡ zero_alf)
+        × ((set_given (read_rbsp reader.entry.bytes.now)).scaling ≡ zero_scaling) }
 {
-    let mut abs = [0u32; 16];
-    let mut sign = [false; 16];
-    let answer = lmcs_answer(bytes, id, chroma, &mut abs, &mut sign);
-    let outcome = answer.outcome;
-    let head = answer.head;
-    HeadReading { outcome, head }
+    let mut curve = zero_lmcs();
+    lmcs_answer(reader, head, &mut curve)
 }
 
 // What reading gives of an LMCS set; of a set of another kind the head.
@@ -98,29 +67,16 @@ pub struct LmcsReading {
     pub lmcs: VvcLmcsData,
 }
 
-// The record is put together once, whatever was answered.
-pub(crate) fn lmcs_alone(bytes: &[u8], id: u8, chroma: bool) -> LmcsReading
-    requires { (length bytes.now ≤ 65536) × Headed bytes.now 1 id chroma }
-    ensures { ReadsLmcs result bytes.now }
+pub(crate) fn lmcs_alone(reader: Reader, head: ApsHead) -> LmcsReading
+    requires { (reader.at ≡ 9) × (head.kind ≡ ApsKind.Lmcs) × Heading reader.bytes.now head }
+    ensures { ReadsLmcs result reader.entry.bytes.now }
 {
-    let mut abs = [0u32; 16];
-    let mut sign = [false; 16];
-    let answer = lmcs_answer(bytes, id, chroma, &mut abs, &mut sign);
-    let outcome = answer.outcome;
-    let head = answer.head;
-    let read = answer.read;
+    let mut lmcs = zero_lmcs();
+    let answer = lmcs_answer(reader, head, &mut lmcs);
     LmcsReading {
-        outcome,
-        head,
-        lmcs: VvcLmcsData {
-            lmcs_min_bin_idx: read.min,
-            lmcs_delta_max_bin_idx: read.max,
-            lmcs_delta_cw_prec_minus1: read.prec,
-            lmcs_delta_abs_cw: abs,
-            lmcs_delta_sign_cw_flag: sign,
-            lmcs_delta_abs_crs: read.crs_abs,
-            lmcs_delta_sign_crs_flag: read.crs_sign,
-        },
+        outcome: answer.outcome,
+        head: answer.head,
+        lmcs,
     }
 }
 
@@ -144,9 +100,11 @@ pub fn parse_lmcs_rbsp(bytes: &[u8]) -> LmcsReading
     ensures lmcs { result.lmcs ≡ (set_given (parse_aps_rbsp bytes.now)).lmcs }
 {
     match open_rbsp(bytes) {
-        Opening::Alf { id, chroma } => no_lmcs_in(alf_head(bytes, id, chroma)),
-        Opening::Lmcs { id, chroma } => lmcs_alone(bytes, id, chroma),
-        Opening::Scaling { id, chroma } => no_lmcs_in(scaling_head(bytes, id, chroma)),
-        Opening::Refused(why) => no_lmcs_in(refuse_head(why)),
+        Ok((reader, head)) => match head.kind {
+            ApsKind::Alf => no_lmcs_in(alf_head(reader, head)),
+            ApsKind::Lmcs => lmcs_alone(reader, head),
+            ApsKind::Scaling => no_lmcs_in(scaling_head(reader, head)),
+        },
+        Err(why) => no_lmcs_in(refuse_head(why)),
     }
 }

@@ -1,14 +1,15 @@
 // The fields of an input of at most 65,536 bytes, one after another.
-ghost use Rattle.std.specs.Prelude.{◌≡◌, false, cond, ◌+◌, ◌*◌, ◌≤◌, ◌<◌, eqb, ltb, length};
+ghost use Rattle.std.specs.Prelude.{◌≡◌, false, cond, ◌+◌, ◌*◌, ◌≤◌, ◌<◌, eqb, ltb, nat_abs, length};
+ghost use Rattle.bitstream.specs.Fields.{se_value};
 ghost use Rattle.bitstream.specs.Windows.{IsWindow};
 
-use crate::fields::se_of;
 use bitstream::Refusal;
 use bitstream::bit_reader::BitReader;
 use bitstream::short_codes::CodeTable;
 use bitstream::window::window;
 
 // The `left` highest of `bits` are the bits from bit `at` on, zeros past the end.
+#[derive(Drop)]
 pub(crate) struct Reader<'a> {
     bytes: &'a [u8],
     at: usize,
@@ -21,8 +22,9 @@ pub(crate) struct Reader<'a> {
 
 impl<'a> Reader<'a> {
     ghost use Rattle.std.specs.Prelude.{pos, negsuc};
-    ghost use Rattle.aps.specs.Codec.{u, ue};
-    ghost use Rattle.aps.specs.Elements.{flag, ue_to, se_in, signed};
+    ghost use Rattle.bitstream.specs.Fields.{read_trailing};
+    ghost use Rattle.aps.specs.Codec.{u, ue, when};
+    ghost use Rattle.aps.specs.Elements.{flag, no_flag, ue_to, se_in, signed};
     ghost use Rattle.aps.specs.AlfSyntax.{coefficient};
     ghost use Rattle.aps.specs.Reads.{given, Reads, Stands};
 
@@ -98,6 +100,13 @@ impl<'a> Reader<'a> {
         Ok(bit != 0)
     }
 
+    // The same where it is sent, else false.
+    pub(crate) fn flag_if(&mut self, sent: bool) -> Result<bool, Refusal>
+        ensures { Reads (when sent no_flag flag) (given result self.new.at) self.old self.new }
+    {
+        if sent { self.flag() } else { Ok(false) }
+    }
+
     // A magnitude u(n), and its sign if it is not 0.
     pub(crate) fn signed(&mut self, n: u32) -> Result<(u32, bool), Refusal>
         requires { (1 ≤ n) × (n ≤ 16) }
@@ -164,6 +173,17 @@ impl<'a> Reader<'a> {
         Ok(se_of(k))
     }
 
+    // rbsp_trailing_bits(): a 1 bit, then zeros to the end of the byte.
+    pub(crate) fn trailing(&mut self) -> Result<(), Refusal>
+        ensures field { given result self.new.at ≡ read_trailing self.old.bytes.now self.old.at }
+        ensures bytes { self.new.bytes.now ≡ self.old.bytes.now }
+    {
+        let next = (BitReader { bit_pos: self.at }).read_rbsp_trailing_bits(self.bytes)?;
+        self.at = next.bit_pos;
+        self.left = 0;
+        Ok(())
+    }
+
     // A magnitude in 0..128, and its sign if it is not 0: at most 17 bits and the sign, which is sent unless the first bit is 1.
     pub(crate) fn coefficient(&mut self, codes: &CodeTable) -> Result<(u32, bool), Refusal>
         ensures { Reads coefficient (given result self.new.at) self.old self.new }
@@ -202,4 +222,15 @@ fn sign_bits(abs: u32) -> u64
     ensures { (result ≡ cond (eqb abs 0) 0 1) × (result ≤ 1) }
 {
     if abs == 0 { 0 } else { 1 }
+}
+
+// The se that a short ue stands for.
+fn se_of(k: u32) -> i32
+    requires { k < 1000 }
+    ensures { (result ≡ se_value k) × (nat_abs result ≤ 500) }
+{
+    if k % 2 == 1 {
+        return (k / 2 + 1) as i32;
+    }
+    -((k / 2) as i32)
 }

@@ -1,99 +1,63 @@
 // A set of scaling lists.
-ghost use Rattle.std.specs.Prelude.{◌≡◌, false, ◌≤◌, pos, length, replicate};
-ghost use Rattle.aps.specs.Inner.{AnswersScaling, Headed, Heads, ReadsScaling};
+ghost use Rattle.std.specs.Prelude.{◌≡◌};
+ghost use Rattle.aps.specs.Inner.{Assembles, Heading, Heads, ReadsScaling, assembled};
 ghost use Rattle.aps.specs.Rbsp.{read_rbsp, parse_aps_rbsp};
-ghost use Rattle.aps.specs.ApsSyntax.{empty_set, zero_alf, zero_lmcs, zero_scaling};
+ghost use Rattle.aps.specs.ApsSyntax.{zero_alf, zero_lmcs, zero_scaling};
 ghost use Rattle.aps.specs.Reading.{outcome_read, set_given, head_of};
+ghost use Rattle.aps.specs.Reads.{filled};
 
 use crate::alf_set::alf_head;
-use crate::aps::{
-    ApsHead, ApsKind, ApsOutcome, HeadReading, Opening, Scaling, open_rbsp, refuse_head,
-};
-use crate::ending::read_ending;
-use crate::fields::Stop;
+use crate::aps::{ApsHead, ApsKind, ApsOutcome, HeadReading, Scaling, open_rbsp, refuse_head};
+use crate::ending::close_rbsp;
 use crate::lmcs_set::lmcs_head;
+use crate::reader::Reader;
 use crate::scaling_list::{VvcScalingListData, zero_scaling};
 use crate::scaling_list_data::parse_scaling_list_data;
 use bitstream::Refusal;
 
-// A refusal leaves the arrays 0.
-fn refuse_scaling(
-    why: Refusal,
-    copy: &mut [bool; 28],
-    pred: &mut [bool; 28],
-    delta: &mut [u32; 28],
-    dc: &mut [i32; 14],
-    list: &mut [i32; 1792],
-) -> HeadReading
-    ensures answer { (result.outcome ≡ ApsOutcome.Refused why) × (result.head ≡ head_of empty_set) }
-    ensures arrays { (copy.new ≡ replicate 28 false) × (pred.new ≡ replicate 28 false) × (delta.new ≡ replicate 28 0)
-        × (dc.new ≡ replicate 14 (pos 0)) × (list.new ≡ replicate 1792 (pos 0)) }
+// A scaling set after what stands before its payload: its id is judged after its payload.
+fn read_scaling_set(
+    reader: &mut Reader,
+    head: &mut ApsHead,
+    d: &mut VvcScalingListData,
+) -> Result<(), Refusal>
+    requires { (reader.old.at ≡ 9) × (head.old.kind ≡ ApsKind.Scaling) × Heading reader.old.bytes.now head.old × (d.old ≡ zero_scaling) }
+    ensures { filled result (assembled head.new zero_alf zero_lmcs d.new) reader.new.at ≡ read_rbsp reader.old.bytes.now }
 {
-    *copy = [false; 28];
-    *pred = [false; 28];
-    *delta = [0; 28];
-    *dc = [0; 14];
-    *list = [0; 1792];
-    refuse_head(why)
+    parse_scaling_list_data(reader, head.aps_chroma_present_flag, d)?;
+    if Scaling::MAX_ID < head.aps_adaptation_parameter_set_id {
+        return Err(Refusal::InvalidData);
+    }
+    head.aps_extension_flag = close_rbsp(reader)?;
+    Ok(())
 }
 
-// A scaling set: its id is judged after its payload.
-fn scaling_answer(
-    bytes: &[u8],
-    id: u8,
-    chroma: bool,
-    copy: &mut [bool; 28],
-    pred: &mut [bool; 28],
-    delta: &mut [u32; 28],
-    dc: &mut [i32; 14],
-    list: &mut [i32; 1792],
-) -> HeadReading
-    requires { (length bytes.now ≤ 65536) × Headed bytes.now 2 id chroma
-        × (copy.old ≡ replicate 28 false) × (pred.old ≡ replicate 28 false) × (delta.old ≡ replicate 28 0)
-        × (dc.old ≡ replicate 14 (pos 0)) × (list.old ≡ replicate 1792 (pos 0)) }
-    ensures { AnswersScaling result bytes.now
-        copy.new pred.new delta.new dc.new list.new }
+// The answer but for the lists; a refusal's set is the empty set.
+fn scaling_answer(mut reader: Reader, mut head: ApsHead, d: &mut VvcScalingListData) -> HeadReading
+    requires { (reader.at ≡ 9) × (head.kind ≡ ApsKind.Scaling) × Heading reader.bytes.now head × (d.old ≡ zero_scaling) }
+    ensures { Assembles result.outcome result.head zero_alf zero_lmcs d.new reader.entry.bytes.now }
 {
-    let stop = parse_scaling_list_data(bytes, 9, chroma, copy, pred, delta, dc, list);
-    match stop {
-        Stop::End(q) => {
-            if Scaling::MAX_ID < id {
-                return refuse_scaling(Refusal::InvalidData, copy, pred, delta, dc, list);
-            }
-            let ending = read_ending(bytes, q);
-            let end = ending.outcome;
-            match end {
-                ApsOutcome::Read(at) => HeadReading {
-                    outcome: ApsOutcome::Read(at),
-                    head: ApsHead {
-                        kind: ApsKind::Scaling,
-                        aps_adaptation_parameter_set_id: id,
-                        aps_chroma_present_flag: chroma,
-                        aps_extension_flag: ending.extension,
-                    },
-                },
-                ApsOutcome::Refused(why) => refuse_scaling(why, copy, pred, delta, dc, list),
-            }
+    match read_scaling_set(&mut reader, &mut head, d) {
+        Ok(()) => HeadReading {
+            outcome: ApsOutcome::Read(reader.at()),
+            head,
+        },
+        Err(why) => {
+            *d = zero_scaling();
+            refuse_head(why)
         }
-        Stop::Refused(why) => refuse_scaling(why, copy, pred, delta, dc, list),
     }
 }
 
 // The answer without the arrays.
-pub(crate) fn scaling_head(bytes: &[u8], id: u8, chroma: bool) -> HeadReading
-    requires { (length bytes.now ≤ 65536) × Headed bytes.now 2 id chroma }
-    ensures answer { Heads result bytes.now }
-    ensures others { ((set_given (read_rbsp bytes.now)).alf ≡ zero_alf)
-        × ((set_given (read_rbsp bytes.now)).lmcs ≡ zero_lmcs) }
+pub(crate) fn scaling_head(reader: Reader, head: ApsHead) -> HeadReading
+    requires { (reader.at ≡ 9) × (head.kind ≡ ApsKind.Scaling) × Heading reader.bytes.now head }
+    ensures answer { Heads result reader.entry.bytes.now }
+    ensures others { ((set_given (read_rbsp reader.entry.bytes.now)).alf ≡ zero_alf)
+        × ((set_given (read_rbsp reader.entry.bytes.now)).lmcs ≡ zero_lmcs) }
 {
-    let mut copy = [false; 28];
-    let mut pred = [false; 28];
-    let mut delta = [0u32; 28];
-    let mut dc = [0i32; 14];
-    let mut list = [0i32; 1792];
-    scaling_answer(
-        bytes, id, chroma, &mut copy, &mut pred, &mut delta, &mut dc, &mut list,
-    )
+    let mut lists = zero_scaling();
+    scaling_answer(reader, head, &mut lists)
 }
 
 // What reading gives of a scaling set; of a set of another kind the head.
@@ -104,31 +68,16 @@ pub struct ScalingReading {
     pub scaling: VvcScalingListData,
 }
 
-// The record is put together once, whatever was answered.
-pub(crate) fn scaling_alone(bytes: &[u8], id: u8, chroma: bool) -> ScalingReading
-    requires { (length bytes.now ≤ 65536) × Headed bytes.now 2 id chroma }
-    ensures { ReadsScaling result bytes.now }
+pub(crate) fn scaling_alone(reader: Reader, head: ApsHead) -> ScalingReading
+    requires { (reader.at ≡ 9) × (head.kind ≡ ApsKind.Scaling) × Heading reader.bytes.now head }
+    ensures { ReadsScaling result reader.entry.bytes.now }
 {
-    let mut copy = [false; 28];
-    let mut pred = [false; 28];
-    let mut delta = [0u32; 28];
-    let mut dc = [0i32; 14];
-    let mut list = [0i32; 1792];
-    let answer = scaling_answer(
-        bytes, id, chroma, &mut copy, &mut pred, &mut delta, &mut dc, &mut list,
-    );
-    let outcome = answer.outcome;
-    let head = answer.head;
+    let mut scaling = zero_scaling();
+    let answer = scaling_answer(reader, head, &mut scaling);
     ScalingReading {
-        outcome,
-        head,
-        scaling: VvcScalingListData {
-            copy_mode_flag: copy,
-            pred_mode_flag: pred,
-            pred_id_delta: delta,
-            dc_coef: dc,
-            scaling_list: list,
-        },
+        outcome: answer.outcome,
+        head: answer.head,
+        scaling,
     }
 }
 
@@ -152,9 +101,11 @@ pub fn parse_scaling_rbsp(bytes: &[u8]) -> ScalingReading
     ensures scaling { result.scaling ≡ (set_given (parse_aps_rbsp bytes.now)).scaling }
 {
     match open_rbsp(bytes) {
-        Opening::Alf { id, chroma } => no_scaling_in(alf_head(bytes, id, chroma)),
-        Opening::Lmcs { id, chroma } => no_scaling_in(lmcs_head(bytes, id, chroma)),
-        Opening::Scaling { id, chroma } => scaling_alone(bytes, id, chroma),
-        Opening::Refused(why) => no_scaling_in(refuse_head(why)),
+        Ok((reader, head)) => match head.kind {
+            ApsKind::Alf => no_scaling_in(alf_head(reader, head)),
+            ApsKind::Lmcs => no_scaling_in(lmcs_head(reader, head)),
+            ApsKind::Scaling => scaling_alone(reader, head),
+        },
+        Err(why) => no_scaling_in(refuse_head(why)),
     }
 }

@@ -1,153 +1,131 @@
 // A set written as an RBSP or as a unit. After src/h266/aps.rs.
-ghost use Rattle.std.specs.Prelude.{◌≡◌, false, List, ℕ, length};
-ghost use Rattle.aps.specs.declared.aps.VvcAps.{VvcAps};
+ghost use Rattle.std.specs.Prelude.{◌≡◌, Bool, false, ℕ, ◌+◌, ◌≤◌, replicate};
 ghost use Rattle.bitstream.specs.Outcome.{left, outcome_written};
 ghost use Rattle.bitstream.specs.Escapes.{put_bytes};
-ghost use Rattle.aps.specs.Codec.{u, ◌▷◌};
-ghost use Rattle.aps.specs.Elements.{flag};
-ghost use Rattle.aps.specs.ApsSyntax.{of_alf, of_lmcs, of_scaling, payload, aps};
+ghost use Rattle.aps.specs.declared.aps.VvcAps.{VvcAps};
+ghost use Rattle.aps.specs.ApsSyntax.{of_alf, of_lmcs, of_scaling, payload, aps, from_aps};
+ghost use Rattle.aps.specs.ApsSyntax as Syntax;
 ghost use Rattle.aps.specs.ScalingSyntax.{look};
-ghost use Rattle.aps.specs.Inner.{StopsBy, Wrote, first_bytes};
-ghost use Rattle.aps.specs.Writing.{bytes_due, rbsp_due, alf_set, lmcs_set, scaling_set, write_aps, write_nal, write_aps_nal};
+ghost use Rattle.aps.specs.Writes.{Wrote, closed};
+ghost use Rattle.aps.specs.Writing.{bytes_due, alf_set, lmcs_set, scaling_set, write_aps, write_nal, write_aps_nal};
 
 use crate::alf::VvcAlfData;
 use crate::alf_write::write_alf_data;
 use crate::aps::{Alf, ApsKind, Lmcs, Scaling, VvcAps};
-use crate::fields::Stop;
 use crate::lmcs::VvcLmcsData;
 use crate::lmcs_write::write_lmcs_data;
-use crate::put::{put_flag, put_none, put_u};
 use crate::scaling_list::VvcScalingListData;
 use crate::scaling_list_write::write_scaling_list_data;
 use crate::unit::is_aps;
-use bitstream::bit_writer::write_rbsp_trailing_bits;
+use crate::writer::Writer;
 use bitstream::nal::rbsp_to_ebsp;
 use bitstream::{LONGEST_INPUT, Refusal};
 
-// The payload of each kind; an id that the kind does not have is refused before a bit of the payload is written.
-fn put_alf_payload(out: &mut [u8], from: Stop, id: u8, chroma: bool, d: VvcAlfData) -> Stop
-    requires { (length out.old ≡ 4096) × StopsBy from 100 }
-    ensures { Wrote (payload 0 id chroma) (of_alf d) 31248 from result out.old out.new }
-{
-    if Alf::MAX_ID < id {
-        return put_none(from, false);
-    }
-    write_alf_data(out, from, chroma, d)
+// A payload: its kind's number, and its fields; an id that the kind does not have is refused before a bit of the payload is written.
+trait Payload {
+    ghost NUMBER: { ℕ };
+
+    ghost sent: { Bool → Self → Syntax.Payload };
+
+    const NUMBER: u8;
+
+    fn write(&self, writer: &mut Writer, id: u8, chroma: bool) -> Result<(), Refusal>
+        requires { writer.old.at ≤ 100 }
+        ensures wrote { Wrote (payload NUMBER id chroma) (sent chroma self.now) writer.old writer.new result }
+        ensures within { writer.new.at ≤ writer.old.at + 31248 };
 }
 
-fn put_lmcs_payload(out: &mut [u8], from: Stop, id: u8, chroma: bool, d: VvcLmcsData) -> Stop
-    requires { (length out.old ≡ 4096) × StopsBy from 100 }
-    ensures { Wrote (payload 1 id chroma) (of_lmcs d) 31248 from result out.old out.new }
-{
-    if Lmcs::MAX_ID < id {
-        return put_none(from, false);
+impl Payload for VvcAlfData {
+    ghost NUMBER = { 0 };
+
+    ghost sent = { λ chroma d. of_alf d };
+
+    const NUMBER: u8 = Alf::NUMBER;
+
+    fn write(&self, writer: &mut Writer, id: u8, chroma: bool) -> Result<(), Refusal> {
+        if Alf::MAX_ID < id {
+            return Err(Refusal::InvalidData);
+        }
+        write_alf_data(writer, chroma, self)
     }
-    write_lmcs_data(out, from, chroma, d)
 }
 
-fn put_scaling_payload(
-    out: &mut [u8],
-    from: Stop,
+impl Payload for VvcLmcsData {
+    ghost NUMBER = { 1 };
+
+    ghost sent = { λ chroma d. of_lmcs d };
+
+    const NUMBER: u8 = Lmcs::NUMBER;
+
+    fn write(&self, writer: &mut Writer, id: u8, chroma: bool) -> Result<(), Refusal> {
+        if Lmcs::MAX_ID < id {
+            return Err(Refusal::InvalidData);
+        }
+        write_lmcs_data(writer, chroma, self)
+    }
+}
+
+impl Payload for VvcScalingListData {
+    ghost NUMBER = { 2 };
+
+    ghost sent = { λ chroma d. of_scaling (look chroma d) };
+
+    const NUMBER: u8 = Scaling::NUMBER;
+
+    fn write(&self, writer: &mut Writer, id: u8, chroma: bool) -> Result<(), Refusal> {
+        if Scaling::MAX_ID < id {
+            return Err(Refusal::InvalidData);
+        }
+        write_scaling_list_data(writer, chroma, self)
+    }
+}
+
+// A set up to its extension flag, which is 0: what stands before the payload, the payload and the flag.
+fn put_set<P: Payload>(writer: &mut Writer, id: u8, chroma: bool, data: &P) -> Result<(), Refusal>
+    requires { writer.old.at ≡ 0 }
+    ensures wrote { (a : VvcAps) → from_aps a ≡ (P.NUMBER, (id, (chroma, (P.sent chroma data.now, false)))) → Wrote aps a writer.old writer.new result }
+    ensures within { writer.new.at ≤ 31258 }
+{
+    writer.u(u32::from(P::NUMBER), 3)?;
+    writer.u(u32::from(id), 5)?;
+    writer.flag(chroma)?;
+    data.write(writer, id, chroma)?;
+    writer.flag(false)
+}
+
+// A set with what closes its RBSP. 3: extension flag 1.
+fn put_rbsp<P: Payload>(
+    writer: &mut Writer,
     id: u8,
     chroma: bool,
-    d: VvcScalingListData,
-) -> Stop
-    requires { (length out.old ≡ 4096) × StopsBy from 100 }
-    ensures { Wrote (payload 2 id chroma) (of_scaling (look chroma d)) 31248 from result out.old out.new }
+    extension: bool,
+    data: &P,
+) -> Result<(), Refusal>
+    requires { (writer.old.at ≡ 0) × (writer.old.buffer ≡ replicate 4096 0) }
+    ensures due { (a : VvcAps) → from_aps a ≡ (P.NUMBER, (id, (chroma, (P.sent chroma data.now, extension)))) → closed result writer.new ≡ bytes_due a }
+    ensures within { writer.new.at ≤ 32768 }
 {
-    if Scaling::MAX_ID < id {
-        return put_none(from, false);
-    }
-    write_scaling_list_data(out, from, chroma, d)
-}
-
-// What stands before the payload: the kind's number, id and chroma flag.
-fn put_head(out: &mut [u8], kind: u8, id: u8, chroma: bool) -> Stop
-    requires { length out.old ≡ 4096 }
-    ensures { Wrote (u 3 ▷ λ k. u 5 ▷ λ i. flag) (kind, (id, chroma)) 9 (Stop.End 0) result out.old out.new }
-{
-    let a = put_u(out, Stop::End(0), kind as u32, 3);
-    let b = put_u(out, a, id as u32, 5);
-    put_flag(out, b, chroma)
-}
-
-// A set of each kind up to its extension flag, which is 0.
-fn put_alf_set(out: &mut [u8], id: u8, chroma: bool, d: VvcAlfData) -> Stop
-    requires { length out.old ≡ 4096 }
-    ensures { Wrote aps (alf_set id chroma false d) 31258 (Stop.End 0) result out.old out.new }
-{
-    let head = put_head(out, Alf::NUMBER, id, chroma);
-    let payload = put_alf_payload(out, head, id, chroma, d);
-    put_flag(out, payload, false)
-}
-
-fn put_lmcs_set(out: &mut [u8], id: u8, chroma: bool, d: VvcLmcsData) -> Stop
-    requires { length out.old ≡ 4096 }
-    ensures { Wrote aps (lmcs_set id chroma false d) 31258 (Stop.End 0) result out.old out.new }
-{
-    let head = put_head(out, Lmcs::NUMBER, id, chroma);
-    let payload = put_lmcs_payload(out, head, id, chroma, d);
-    put_flag(out, payload, false)
-}
-
-fn put_scaling_set(out: &mut [u8], id: u8, chroma: bool, d: VvcScalingListData) -> Stop
-    requires { length out.old ≡ 4096 }
-    ensures { Wrote aps (scaling_set id chroma false d) 31258 (Stop.End 0) result out.old out.new }
-{
-    let head = put_head(out, Scaling::NUMBER, id, chroma);
-    let payload = put_scaling_payload(out, head, id, chroma, d);
-    put_flag(out, payload, false)
-}
-
-// The arrays of the set's own kind.
-fn put_set(out: &mut [u8], set: VvcAps) -> Stop
-    requires { (length out.old ≡ 4096) × (set.aps_extension_flag ≡ false) }
-    ensures { Wrote aps set 31258 (Stop.End 0) result out.old out.new }
-{
-    let kind = set.kind;
-    let id = set.aps_adaptation_parameter_set_id;
-    let chroma = set.aps_chroma_present_flag;
-    match kind {
-        ApsKind::Alf => {
-            let d = set.alf;
-            put_alf_set(out, id, chroma, d)
-        }
-        ApsKind::Lmcs => {
-            let d = set.lmcs;
-            put_lmcs_set(out, id, chroma, d)
-        }
-        ApsKind::Scaling => {
-            let d = set.scaling;
-            put_scaling_set(out, id, chroma, d)
-        }
-    }
-}
-
-// The stop bit and zeros to the end of the byte after a set that was put: how many bytes its RBSP has.
-fn put_end(buffer: &mut [u8], from: Stop) -> Result<usize, Refusal>
-    requires { (length buffer.old ≡ 4096) × StopsBy from 31258 }
-    ensures { (a : VvcAps) (before : List ℕ) → Wrote aps a 31258 (Stop.End 0) from before buffer.old
-        → outcome_written result (first_bytes result buffer.new) ≡ rbsp_due a }
-{
-    match from {
-        Stop::End(at) => match write_rbsp_trailing_bits(buffer, at) {
-            Ok(end) => Ok(end / 8),
-            Err(why) => Err(why),
-        },
-        Stop::Refused(why) => Err(why),
-    }
-}
-
-// The RBSP of a set at the start of a buffer that has room for it.
-fn write_rbsp(set: VvcAps, buffer: &mut [u8]) -> Result<usize, Refusal>
-    requires { length buffer.old ≡ 4096 }
-    ensures { outcome_written result (first_bytes result buffer.new) ≡ bytes_due set }
-{
-    if set.aps_extension_flag {
+    if extension {
         return Err(Refusal::Unsupported);
     }
-    let at = put_set(buffer, set);
-    put_end(buffer, at)
+    put_set(writer, id, chroma, data)?;
+    writer.trailing_bits()
+}
+
+// The RBSP of a set.
+fn write_rbsp(writer: &mut Writer, set: &VvcAps) -> Result<(), Refusal>
+    requires { (writer.old.at ≡ 0) × (writer.old.buffer ≡ replicate 4096 0) }
+    ensures due { closed result writer.new ≡ bytes_due set.now }
+    ensures within { writer.new.at ≤ 32768 }
+{
+    let id = set.aps_adaptation_parameter_set_id;
+    let chroma = set.aps_chroma_present_flag;
+    let extension = set.aps_extension_flag;
+    match set.kind {
+        ApsKind::Alf => put_rbsp(writer, id, chroma, extension, &set.alf),
+        ApsKind::Lmcs => put_rbsp(writer, id, chroma, extension, &set.lmcs),
+        ApsKind::Scaling => put_rbsp(writer, id, chroma, extension, &set.scaling),
+    }
 }
 
 // Bytes put at the start of the output if it has room for them.
@@ -158,11 +136,7 @@ pub fn copy_out(bytes: &[u8], out: &mut [u8]) -> Result<usize, Refusal>
     if out.len() < bytes.len() {
         return Err(Refusal::OutputTooShort);
     }
-    let mut i: usize = 0;
-    while i < bytes.len() {
-        out[i] = bytes[i];
-        i += 1;
-    }
+    out[..bytes.len()].copy_from_slice(bytes);
     Ok(bytes.len())
 }
 
@@ -180,105 +154,89 @@ pub fn write_nal(rbsp: &[u8], unit_type: u8, out: &mut [u8]) -> Result<usize, Re
     if out.len() < 2 {
         return Err(Refusal::OutputTooShort);
     }
-    match rbsp_to_ebsp(rbsp, &mut out[2..]) {
-        Ok(n) => {
-            out[0] = 0;
-            out[1] = unit_type * 8 + 1;
-            Ok(n + 2)
-        }
-        Err(short) => Err(short),
-    }
+    let n = rbsp_to_ebsp(rbsp, &mut out[2..])?;
+    out[0] = 0;
+    out[1] = unit_type * 8 + 1;
+    Ok(n + 2)
 }
 
 // A set as an RBSP, stop bit and padding included.
-pub fn write_aps(set: VvcAps, out: &mut [u8]) -> Result<usize, Refusal>
-    ensures answer { outcome_written result out.new ≡ write_aps set out.old }
-    ensures bytes { out.new ≡ left out.old (write_aps set out.old) }
+pub fn write_aps(set: &VvcAps, out: &mut [u8]) -> Result<usize, Refusal>
+    ensures answer { outcome_written result out.new ≡ write_aps set.now out.old }
+    ensures bytes { out.new ≡ left out.old (write_aps set.now out.old) }
 {
-    let mut buffer = [0u8; 4096];
-    match write_rbsp(set, &mut buffer) {
-        Ok(n) => copy_out(&buffer[..n], out),
-        Err(why) => Err(why),
-    }
+    let mut writer = Writer::new();
+    write_rbsp(&mut writer, set)?;
+    copy_out(writer.bytes(), out)
 }
 
 // A set as a unit: its header, then the RBSP with escapes put in.
-pub fn write_aps_nal(set: VvcAps, unit_type: u8, out: &mut [u8]) -> Result<usize, Refusal>
-    ensures answer { outcome_written result out.new ≡ write_aps_nal set unit_type out.old }
-    ensures bytes { out.new ≡ left out.old (write_aps_nal set unit_type out.old) }
+pub fn write_aps_nal(set: &VvcAps, unit_type: u8, out: &mut [u8]) -> Result<usize, Refusal>
+    ensures answer { outcome_written result out.new ≡ write_aps_nal set.now unit_type out.old }
+    ensures bytes { out.new ≡ left out.old (write_aps_nal set.now unit_type out.old) }
 {
     if !is_aps(unit_type) {
         return Err(Refusal::InvalidData);
     }
-    let mut buffer = [0u8; 4096];
-    match write_rbsp(set, &mut buffer) {
-        Ok(n) => write_nal(&buffer[..n], unit_type, out),
-        Err(why) => Err(why),
-    }
+    let mut writer = Writer::new();
+    write_rbsp(&mut writer, set)?;
+    write_nal(writer.bytes(), unit_type, out)
 }
 
-// An ALF set as an RBSP, without the record of all three kinds.
+// A set of one kind as an RBSP, without the record of all three kinds.
+fn write_one<P: Payload>(
+    id: u8,
+    chroma: bool,
+    extension: bool,
+    data: &P,
+    out: &mut [u8],
+) -> Result<usize, Refusal>
+    ensures answer { (a : VvcAps) → from_aps a ≡ (P.NUMBER, (id, (chroma, (P.sent chroma data.now, extension)))) → outcome_written result out.new ≡ write_aps a out.old }
+    ensures bytes { (a : VvcAps) → from_aps a ≡ (P.NUMBER, (id, (chroma, (P.sent chroma data.now, extension)))) → out.new ≡ left out.old (write_aps a out.old) }
+{
+    let mut writer = Writer::new();
+    put_rbsp(&mut writer, id, chroma, extension, data)?;
+    copy_out(writer.bytes(), out)
+}
+
+// An ALF set as an RBSP.
 pub fn write_alf(
     id: u8,
     chroma: bool,
     extension: bool,
-    d: VvcAlfData,
+    d: &VvcAlfData,
     out: &mut [u8],
 ) -> Result<usize, Refusal>
-    ensures answer { outcome_written result out.new ≡ write_aps (alf_set id chroma extension d) out.old }
-    ensures bytes { out.new ≡ left out.old (write_aps (alf_set id chroma extension d) out.old) }
+    ensures answer { outcome_written result out.new ≡ write_aps (alf_set id chroma extension d.now) out.old }
+    ensures bytes { out.new ≡ left out.old (write_aps (alf_set id chroma extension d.now) out.old) }
 {
-    if extension {
-        return Err(Refusal::Unsupported);
-    }
-    let mut buffer = [0u8; 4096];
-    let at = put_alf_set(&mut buffer, id, chroma, d);
-    match put_end(&mut buffer, at) {
-        Ok(n) => copy_out(&buffer[..n], out),
-        Err(why) => Err(why),
-    }
+    write_one(id, chroma, extension, d, out)
 }
 
-// An LMCS set as an RBSP, without the record of all three kinds.
+// An LMCS set as an RBSP.
 pub fn write_lmcs(
     id: u8,
     chroma: bool,
     extension: bool,
-    d: VvcLmcsData,
+    d: &VvcLmcsData,
     out: &mut [u8],
 ) -> Result<usize, Refusal>
-    ensures answer { outcome_written result out.new ≡ write_aps (lmcs_set id chroma extension d) out.old }
-    ensures bytes { out.new ≡ left out.old (write_aps (lmcs_set id chroma extension d) out.old) }
+    ensures answer { outcome_written result out.new ≡ write_aps (lmcs_set id chroma extension d.now) out.old }
+    ensures bytes { out.new ≡ left out.old (write_aps (lmcs_set id chroma extension d.now) out.old) }
 {
-    if extension {
-        return Err(Refusal::Unsupported);
-    }
-    let mut buffer = [0u8; 4096];
-    let at = put_lmcs_set(&mut buffer, id, chroma, d);
-    match put_end(&mut buffer, at) {
-        Ok(n) => copy_out(&buffer[..n], out),
-        Err(why) => Err(why),
-    }
+    write_one(id, chroma, extension, d, out)
 }
 
-// A scaling set as an RBSP, without the record of all three kinds.
+// A scaling set as an RBSP.
 pub fn write_scaling(
     id: u8,
     chroma: bool,
     extension: bool,
-    d: VvcScalingListData,
+    d: &VvcScalingListData,
     out: &mut [u8],
 ) -> Result<usize, Refusal>
-    ensures answer { outcome_written result out.new ≡ write_aps (scaling_set id chroma extension d) out.old }
-    ensures bytes { out.new ≡ left out.old (write_aps (scaling_set id chroma extension d) out.old) }
+    ensures answer { outcome_written result out.new ≡ write_aps (scaling_set id chroma extension d.now) out.old }
+    ensures bytes { out.new ≡ left out.old (write_aps (scaling_set id chroma extension d.now) out.old) }
 {
-    if extension {
-        return Err(Refusal::Unsupported);
-    }
-    let mut buffer = [0u8; 4096];
-    let at = put_scaling_set(&mut buffer, id, chroma, d);
-    match put_end(&mut buffer, at) {
-        Ok(n) => copy_out(&buffer[..n], out),
-        Err(why) => Err(why),
-    }
+    write_one(id, chroma, extension, d, out)
 }

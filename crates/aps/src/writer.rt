@@ -1,21 +1,33 @@
 // The fields of a set, written into a buffer that has room for them: as the description writes them, and 2 where it does not take a value.
-ghost use Rattle.std.specs.Prelude.{◌≡◌, ◌+◌, ◌*◌, ◌≤◌, ◌<◌, pos, negsuc, OnOk};
+ghost use Rattle.std.specs.Prelude.{◌≡◌, ◌+◌, ◌*◌, ◌/◌, ◌≤◌, ◌<◌, pos, negsuc, replicate, take, OnOk};
 ghost use Rattle.bitstream.specs.Fields.{ue_zeros};
+ghost use Rattle.bitstream.specs.Writing.{write_trailing_at};
 ghost use Rattle.aps.specs.Codec.{u};
 ghost use Rattle.aps.specs.Elements.{flag, ue_to, se_in, signed};
 ghost use Rattle.aps.specs.AlfSyntax.{coefficient};
-ghost use Rattle.aps.specs.Writes.{Wrote, unsent};
+ghost use Rattle.aps.specs.Writes.{Wrote, written, unsent};
 
 use bitstream::Refusal;
-use bitstream::bit_writer::{write_bits, write_se, write_ue};
+use bitstream::bit_writer::{write_bits, write_rbsp_trailing_bits, write_se, write_ue};
 
 // The bits of a set on their way: the first `at` bits of the buffer are written.
+#[derive(Drop)]
 pub(crate) struct Writer {
     pub(crate) buffer: [u8; 4096],
     pub(crate) at: usize,
 }
 
 impl Writer {
+    // Nothing is written.
+    pub(crate) fn new() -> Self
+        ensures { result ≡ record { buffer = replicate 4096 0; at = 0 } }
+    {
+        Writer {
+            buffer: [0; 4096],
+            at: 0,
+        }
+    }
+
     // u(n).
     pub(crate) fn u(&mut self, v: u32, n: u32) -> Result<(), Refusal>
         requires { (self.old.at ≤ 32700) × (n ≤ 32) }
@@ -97,6 +109,25 @@ impl Writer {
         let code = abs + 1;
         let zeros = 31 - u32::leading_zeros(code);
         self.u(2 * code + u32::from(sign), 2 * zeros + 2)
+    }
+
+    // The stop bit and zeros to the end of the byte.
+    pub(crate) fn trailing_bits(&mut self) -> Result<(), Refusal>
+        requires { self.old.at ≤ 32700 }
+        ensures wrote { written result self.new ≡ write_trailing_at self.old.buffer self.old.at }
+        ensures within { self.new.at ≤ self.old.at + 8 }
+    {
+        let end = write_rbsp_trailing_bits(&mut self.buffer, self.at)?;
+        self.at = end;
+        Ok(())
+    }
+
+    // The whole bytes that are written.
+    pub(crate) fn bytes(&self) -> &[u8]
+        requires { self.now.at ≤ 32768 }
+        ensures { result.now ≡ take (self.now.at / 8) self.now.buffer }
+    {
+        &self.buffer[..self.at / 8]
     }
 }
 

@@ -39,8 +39,7 @@ pub fn aps_alf_rewrite(bytes: &[u8], out: &mut [u8], len: &mut [u64; 1]) -> u32
             let id = head.aps_adaptation_parameter_set_id;
             let chroma = head.aps_chroma_present_flag;
             let extension = head.aps_extension_flag;
-            let d = reading.alf;
-            sized(write_alf(id, chroma, extension, d, out), len)
+            sized(write_alf(id, chroma, extension, &reading.alf, out), len)
         }
         ApsOutcome::Refused(e) => e.into(),
     }
@@ -74,8 +73,7 @@ pub fn aps_lmcs_rewrite(bytes: &[u8], out: &mut [u8], len: &mut [u64; 1]) -> u32
             let id = head.aps_adaptation_parameter_set_id;
             let chroma = head.aps_chroma_present_flag;
             let extension = head.aps_extension_flag;
-            let d = reading.lmcs;
-            sized(write_lmcs(id, chroma, extension, d, out), len)
+            sized(write_lmcs(id, chroma, extension, &reading.lmcs, out), len)
         }
         ApsOutcome::Refused(e) => e.into(),
     }
@@ -109,8 +107,10 @@ pub fn aps_scaling_rewrite(bytes: &[u8], out: &mut [u8], len: &mut [u64; 1]) -> 
             let id = head.aps_adaptation_parameter_set_id;
             let chroma = head.aps_chroma_present_flag;
             let extension = head.aps_extension_flag;
-            let d = reading.scaling;
-            sized(write_scaling(id, chroma, extension, d, out), len)
+            sized(
+                write_scaling(id, chroma, extension, &reading.scaling, out),
+                len,
+            )
         }
         ApsOutcome::Refused(e) => e.into(),
     }

@@ -142,7 +142,7 @@ pub fn aps_write(set: &[i64], out: &mut [u8], len: &mut [u64; 1]) -> u32
     if !is_set(set) {
         return 2;
     }
-    sized(write_aps(set_of(set), out), len)
+    sized(write_aps(&set_of(set), out), len)
 }
 
 // A set as a unit at the start of out, and its length.
@@ -154,7 +154,7 @@ pub fn aps_write_nal(set: &[i64], unit_type: u8, out: &mut [u8], len: &mut [u64;
     if !is_set(set) {
         return 2;
     }
-    sized(write_aps_nal(set_of(set), unit_type, out), len)
+    sized(write_aps_nal(&set_of(set), unit_type, out), len)
 }
 
 // A set read from an RBSP and written again at the start of out, and its length.
@@ -166,7 +166,7 @@ pub fn aps_rewrite(bytes: &[u8], out: &mut [u8], len: &mut [u64; 1]) -> u32
     let reading = parse_aps_rbsp(bytes);
     let outcome = reading.outcome;
     match outcome {
-        ApsOutcome::Read(_) => sized(write_aps(reading.set, out), len),
+        ApsOutcome::Read(_) => sized(write_aps(&reading.set, out), len),
         ApsOutcome::Refused(e) => e.into(),
     }
 }

@@ -1,22 +1,33 @@
 -- `read_alternative`: six coefficients, and at once six clips.
-use mathlib.Core.Path.{refl}
-use native.Mathlib.Omega.{arith}
-use Rattle.aps.proofs.AlternativeSteps.{alternative-from}
-use Rattle.aps.specs.declared.fields.Stop.TheVariants as Stop
-use Rattle.aps.proofs.AlfSteps.{first-coefficients}
-use Rattle.aps.proofs.ClipSteps.{sent-rows}
-use Rattle.aps.proofs.Bounds.{stops-inside}
+use mathlib.Core.Path.{◌≡◌, ap}
+use mathlib.Core.List.{List}
+use Prim.Native.Nat.{ℕ}
+use lib.ListN.{length}
+use Rattle.aps.specs.AlfSyntax.{alternative}
+use Rattle.aps.proofs.AlternativeSteps.{six-coefficients, row-of-clips}
+use Rattle.aps.proofs.ReaderLaws.{fills-exit, reads-▷, reads-▷-first, reads-pairs}
 use Rattle.aps.proofs.alf_chroma.read_alternative.Goals as goal
 
-pub read_clips-stop-requires : goal.read_clips-stop-requires
-read_clips-stop-requires c =
-    let e = c.read_coefficients-coefficients in
-    (c.requires.0, stops-inside (first-coefficients 6 6) c.args.bytes.now (Stop.End c.args.p) e.result (e.new.abs, e.new.sign) e.ensures c.requires.1, omega arith, omega arith, sent-rows c.args.clip 6 _ refl c.clips_sent.ensures.0, refl)
+pub returns-in_err-read_coefficients : goal.returns-in_err-read_coefficients
+unfolding alternative
+returns-in_err-read_coefficients c =
+    let n : length c.args.abs.now ≡ 6 = ap (λ (l : List ℕ). length l) c.requires.0 in
+    fills-exit _ _ _ _ c.from_residual.ensures.1 (reads-▷-first _ (rw six-coefficients at (reads-pairs _ (rw n at c.in_err-read_coefficients.ensures))))
+
+pub returns-in_err-read_clips : goal.returns-in_err-read_clips
+unfolding alternative
+returns-in_err-read_clips c =
+    let n : length c.args.abs.now ≡ 6 = ap (λ (l : List ℕ). length l) c.requires.0 in
+    let m : length c.args.clips.now ≡ 6 = ap (λ (l : List ℕ). length l) c.requires.2 in
+    let r = rw six-coefficients at (reads-pairs _ (rw n at c.in_ok-read_coefficients.ensures)) in
+    let s = rw (m, row-of-clips c.args.clip _ c.clips_sent.ensures.0) at c.in_err-read_clips.ensures in
+    fills-exit _ _ _ _ c.from_residual-in_err-read_clips.ensures.1 (reads-▷ _ r s)
 
 pub returns : goal.returns
+unfolding alternative
 returns c =
-    let d = c.read_clips-stop in
-    let w = c.clips_sent in
-    let e = c.read_coefficients-coefficients in
-    let a = c.args in
-    alternative-from a.bytes.now a.p a.clip e.result d.result e.new.abs e.new.sign d.new.clip w.result w.ensures.0 e.ensures d.ensures
+    let n : length c.args.abs.now ≡ 6 = ap (λ (l : List ℕ). length l) c.requires.0 in
+    let m : length c.args.clips.now ≡ 6 = ap (λ (l : List ℕ). length l) c.requires.2 in
+    let r = rw six-coefficients at (reads-pairs _ (rw n at c.in_ok-read_coefficients.ensures)) in
+    let s = rw (m, row-of-clips c.args.clip _ c.clips_sent.ensures.0) at c.in_ok-read_clips.ensures in
+    reads-▷ _ r s

@@ -1,59 +1,47 @@
 -- `read_alternatives`: the loop has stored the first alternatives as rows.
 use borrow.Author.Rules.{rules}
-use mathlib.Core.Path.{◌≡◌, sym, ap, ◌∙◌}
-use mathlib.Core.Bool.{Bool}
-use mathlib.Core.List.{List}
-use Prim.Native.Nat.{ℕ, ◌≤◌}
+use mathlib.Core.Path.{◌≡◌}
+use mathlib.Core.Bool.{false}
+use Prim.Native.Nat.{◌+◌, ◌-◌, ◌*◌}
 use native.Mathlib.Omega.{arith}
 use lib.ListN.{length}
-use Rattle.bitstream.specs.Outcome.{number}
-use Rattle.aps.specs.Elements.{zipped}
-use Rattle.aps.specs.Inner.{outcome_stop}
-use Rattle.aps.specs.declared.fields.Stop.{Stop}
-use Rattle.aps.proofs.AlfLaws.{alternative-law}
-use Rattle.aps.proofs.CodecLaws.{inside}
-use Rattle.aps.proofs.AlternativeSteps.{rows-from, rows_more, rows-refused, rows-done}
+use Rattle.aps.proofs.AlternativeSteps.{rows-from, rows-more, rows-refused, rows-done}
+use Rattle.aps.proofs.ReaderLaws.{fills-exit}
+use Rattle.aps.proofs.RowLaws.{part-stored, part-blank}
 use Rattle.aps.proofs.alf_chroma.read_alternatives.Goals as goal
 
 pub loop-row-init : goal.loop-row-init
-loop-row-init c =
-    let a = c.args in
-    (omega arith, c.requires.1, rows-from a.clip a.count_minus1 a.bytes.now a.p a.abs.now a.sign.now a.clips.now c.requires.3 c.requires.4 c.requires.5)
+loop-row-init c = rows-from c.args.clip c.args.count_minus1 c.requires.1 c.requires.2 c.requires.3
 
-pub read_alternative-alternative-requires : goal.read_alternative-alternative-requires
-read_alternative-alternative-requires c = (omega arith, omega arith)
-
-pub returns-in-Refused : goal.returns-in-Refused
-returns-in-Refused c =
-    let a = c.args in
+pub read_alternative-requires : goal.read_alternative-requires
+read_alternative-requires c =
     let o = c.loop-row in
-    let k = c.read_alternative-alternative in
-    let x : List (ℕ × Bool) × List ℕ = (zipped k.result.abs k.result.sign, k.result.clip) in
-    let e = sym (ap (λ (t : Stop). outcome_stop t x) c.in-Refused.is) ∙ k.ensures in
-    rows-refused a.clip a.count_minus1 a.bytes.now a.p o.row o.abs o.sign o.clips o.at o.invariant.2 (number c.in-Refused.why) (omega arith) (omega arith) e
+    let R = o.invariant in
+    let k : 6 * o.row + 6 - 6 * o.row ≡ 6 = omega arith in
+    rw k (
+      part-blank o.abs (6 * o.row) 6 _ 0 R.rest-abs (omega arith),
+      part-blank o.sign (6 * o.row) 6 _ false R.rest-sign (omega arith),
+      part-blank o.clips (6 * o.row) 6 _ 0 R.rest-clips (omega arith),
+    )
+
+pub returns-in_err-read_alternative-clause-field : goal.returns-in_err-read_alternative-clause-field
+returns-in_err-read_alternative-clause-field c =
+    fills-exit _ _ _ _ c.from_residual.ensures.1 (rows-refused c.args.clip c.args.count_minus1 c.loop-row.invariant (omega arith) (omega arith) c.in_err-read_alternative.ensures)
 
 pub loop-row-preserved : goal.loop-row-preserved
 loop-row-preserved c =
-    let r = c.read_alternative-alternative.result in
-    let n : length r.abs ≡ 6 = search rules in
-    let m : length r.sign ≡ 6 = search rules in
-    let w : length r.clip ≡ 6 = search rules in
-    let a = c.args in
     let o = c.loop-row in
-    let k = c.read_alternative-alternative in
-    let d = c.keep_alternative in
-    let sent : o.row ≤ a.count_minus1 = c.loop-row-test.true in
-    let most : a.count_minus1 ≤ 7 = c.requires.2 in
-    let x : List (ℕ × Bool) × List ℕ = (zipped r.abs r.sign, r.clip) in
-    let e = sym (ap (λ (t : Stop). outcome_stop t x) c.in-End.is) ∙ k.ensures in (
-      omega arith,
-      inside (alternative-law a.clip 0 0) _ _ _ _ (sym e) o.invariant.1,
-      rows_more a.clip a.count_minus1 a.bytes.now a.p o.row o.abs o.sign o.clips o.at o.invariant.2
-          r.abs r.sign r.clip n m w (omega arith) d.new.abs d.new.sign d.new.clip c.in-End.q (omega arith) e d.ensures.0 d.ensures.1 d.ensures.2,
+    let R = o.invariant in
+    let k = c.read_alternative in
+    let n : length k.new.abs ≡ 6 * o.row + 6 - 6 * o.row = search rules in
+    let m : length k.new.sign ≡ 6 * o.row + 6 - 6 * o.row = search rules in
+    let l : length k.new.clips ≡ 6 * o.row + 6 - 6 * o.row = search rules in
+    rw (
+      part-stored o.abs k.new.abs (6 * o.row) _ n (omega (arith, R.size-abs)),
+      part-stored o.sign k.new.sign (6 * o.row) _ m (omega (arith, R.size-sign)),
+      part-stored o.clips k.new.clips (6 * o.row) _ l (omega (arith, R.size-clips)),
     )
+    (rows-more c.args.clip c.args.count_minus1 R k.new.abs k.new.sign k.new.clips (omega arith) (omega arith) (omega arith) (omega arith) (omega arith) c.in_ok-read_alternative.ensures)
 
-pub returns : goal.returns
-returns c =
-    let a = c.args in
-    let o = c.loop-row in
-    rows-done a.clip a.count_minus1 a.bytes.now a.p o.row o.abs o.sign o.clips o.at o.invariant.2 (omega arith) (omega arith)
+pub returns-clause-field : goal.returns-clause-field
+returns-clause-field c = rows-done c.args.clip c.args.count_minus1 c.loop-row.invariant (omega arith) (omega arith)

@@ -1,36 +1,25 @@
--- `read_cc`: the count is read and judged before the coefficients.
-use mathlib.Core.Path.{sym, ap, ◌∙◌}
-use mathlib.Core.Bool.{Bool}
-use mathlib.Core.List.{List}
-use Prim.Native.Nat.{ℕ}
-use Rattle.aps.specs.Inner.{outcome_u}
-use Rattle.aps.specs.AlfSyntax.{to_cc}
-use Rattle.aps.proofs.AlfSteps.{ue_to-most, cc-read}
-use Rattle.aps.proofs.StopLaws.{map-stop}
-use Rattle.aps.proofs.Bounds.{ue_to-any}
-use Rattle.aps.proofs.CodecLaws.{inside}
+-- `read_cc`: the count, then the coefficients.
+use Rattle.aps.specs.AlfSyntax.{cc_syntax, to_cc}
+use Rattle.aps.proofs.AlfSteps.{blank-cc, cc-sent, cc-unsent}
+use Rattle.aps.proofs.ReaderLaws.{reads-▷, reads-▷-first, reads-most, fills-exit}
 use Rattle.aps.proofs.alf_chroma.read_cc.Goals as goal
 
-pub read_cc_coefficients-stop-requires : goal.read_cc_coefficients-stop-requires
-read_cc_coefficients-stop-requires c =
-    let e = sym c.read_ue_to-count.ensures ∙ ap outcome_u c.in-Value.is in (
-      c.requires.0,
-      inside (ue_to-any 3) c.args.bytes.now c.args.p _ _ e c.requires.1,
-      ue_to-most 3 c.args.bytes.now c.args.p _ _ (sym e),
-      c.requires.2,
-      c.requires.3,
-    )
+pub returns-then-not-signal : goal.returns-then-not-signal
+returns-then-not-signal c = cc-unsent c.if-not-signal.true c.requires
 
-pub returns-in-Value : goal.returns-in-Value
-unfolding to_cc
-returns-in-Value c =
-    let d = c.read_cc_coefficients-stop in
-    let count = sym c.read_ue_to-count.ensures ∙ ap outcome_u c.in-Value.is in
-    let coeff : List ℕ × List Bool = (d.new.abs, d.new.sign) in
-    map-stop (λ x. to_cc (c.in-Value.count_minus1, x)) d.result coeff d.ensures ∙ sym (rw (cc-read, count))
+pub returns-in_err-count_minus1 : goal.returns-in_err-count_minus1
+unfolding cc_syntax
+returns-in_err-count_minus1 c = fills-exit _ _ _ _ c.from_residual.ensures.1 (cc-sent c.if-not-signal.false (reads-▷-first _ c.in_err-count_minus1.ensures))
 
-pub returns-in-Refused : goal.returns-in-Refused
-returns-in-Refused c =
-    let k = c.read_ue_to-count in
-    let count = sym k.ensures ∙ ap outcome_u c.in-Refused.is in
-    rw (cc-read, count)
+pub read_cc_coefficients-requires : goal.read_cc_coefficients-requires
+read_cc_coefficients-requires c = let (a, s) = blank-cc c.requires in (reads-most 3 c.in_ok-count_minus1.ensures, a, s)
+
+pub returns-in_err-read_cc_coefficients : goal.returns-in_err-read_cc_coefficients
+unfolding cc_syntax
+returns-in_err-read_cc_coefficients c =
+    fills-exit _ _ _ _ c.from_residual-in_err-read_cc_coefficients.ensures.1
+    (cc-sent c.if-not-signal.false (reads-▷ _ c.in_ok-count_minus1.ensures c.in_err-read_cc_coefficients.ensures))
+
+pub returns : goal.returns
+unfolding cc_syntax to_cc
+returns c = cc-sent c.if-not-signal.false (reads-▷ _ c.in_ok-count_minus1.ensures c.in_ok-read_cc_coefficients.ensures)

@@ -1,73 +1,44 @@
 -- `read_cc_coefficients`: the loop has read the first i coefficients.
-use mathlib.Core.Path.{◌≡◌, sym}
-use mathlib.Core.Bool.{false}
-use Prim.Native.Nat.{◌/◌}
+use mathlib.Core.Path.{◌≡◌, sym, ◌∙◌}
+use mathlib.Core.Bool.{true, false}
+use Prim.Native.Nat.{ℕ, ◌+◌, ◌*◌, ◌/◌, ◌≤◌, ◌<◌}
 use native.Mathlib.Omega.{arith}
-use borrow.Author.Tests.{le-leb, lt-leb}
-use Rattle.bitstream.specs.Outcome.{value, refused}
-use Rattle.aps.proofs.Steps.{when-read, reading2-more, reading2-done, reading2-refused}
-use Rattle.aps.proofs.FieldSteps.{signed-u-lt}
-use Rattle.aps.proofs.AlfSteps.{reading2-from}
-use Rattle.aps.proofs.WindowSteps.{ends-past, ends-inside}
+use borrow.Author.Tests.{lt-ltb, le-ltb}
+use lib.Dec.{leb}
+use Rattle.aps.specs.Elements.{no_signed}
+use Rattle.aps.proofs.AlfSteps.{row-test}
+use Rattle.aps.proofs.Steps.{when-read}
+use Rattle.aps.proofs.ReaderLaws.{fills-exit, reads-sent, reads-signed-lt, filling2-start, filling2-more, filling2-refused, filling2-done}
 use Rattle.aps.proofs.alf_chroma.read_cc_coefficients.Goals as goal
 use Rattle.aps.proofs.alf_chroma.read_cc_coefficients.Invariants.{entry}
 
+-- an entry of the first 7 * (n + 1) is sent, and no other
+sent : (i n : ℕ) → i < 7 * (n + 1) → leb (i / 7) n ≡ true
+sent i n h = sym (row-test 7 i n (omega arith)) ∙ lt-ltb i (7 * (n + 1)) h
+
+unsent : (i n : ℕ) → 7 * (n + 1) ≤ i → leb (i / 7) n ≡ false
+unsent i n h = sym (row-test 7 i n (omega arith)) ∙ le-ltb i (7 * (n + 1)) h
+
 pub loop-i-init : goal.loop-i-init
-loop-i-init c =
-    let a = c.args in
-    let w = c.window_at-held.ensures in (
-      omega arith,
-      omega (arith, w.1, c.requires.1),
-      w.0,
-      rw w.1 (reading2-from (entry a.count_minus1) 28 0 false a.bytes.now a.p a.abs.now a.sign.now c.requires.3 c.requires.4),
-    )
+loop-i-init c = filling2-start (entry c.args.count_minus1) _ _ _ c.requires.1 c.requires.2
 
-pub held_signed-field-requires : goal.held_signed-field-requires
-held_signed-field-requires c =
+pub returns-in_err-magnitude : goal.returns-in_err-magnitude
+returns-in_err-magnitude c =
     let o = c.loop-i in
-    (omega arith, o.invariant.2, o.invariant.1, omega arith, omega arith)
-
-pub returns-then-bytes-held : goal.returns-then-bytes-held
-returns-then-bytes-held c =
-    let a = c.args in
-    let s = a.bytes.now in
-    let o = c.loop-i in
-    let k = c.held_signed-field in
-    let e : (entry a.count_minus1 o.i).read s o.held.at ≡ refused 1
-    = rw (when-read, le-leb (o.i / 7) a.count_minus1 (omega arith)) (ends-past s k.result.next.at (k.result.abs, k.result.sign) k.ensures.field c.if-bytes-held.true) in
-    sym (reading2-refused (entry a.count_minus1) 28 0 false s a.p o.i o.abs o.sign o.held.at o.invariant.3 1 (omega arith) e)
+    let n = c.args.count_minus1 in
+    fills-exit _ _ _ _ c.from_residual.ensures.1 (filling2-refused (entry n) _ _ _ o.invariant (omega arith) (reads-sent _ no_signed (sent o.i n (omega arith)) c.in_err-magnitude.ensures))
 
 pub overflow_cast-abs : goal.overflow_cast-abs
-overflow_cast-abs c =
-    let s = c.args.bytes.now in
-    let k = c.held_signed-field in
-    let r = ends-inside s k.result.next.at (k.result.abs, k.result.sign) k.ensures.field c.if-bytes-held.false in
-    omega (arith, signed-u-lt 3 s c.loop-i.held.at r)
-
-pub bounds-abs-i : goal.bounds-abs-i
-bounds-abs-i c = omega (arith, c.loop-i.invariant.3.size)
-
-pub bounds-sign-i : goal.bounds-sign-i
-bounds-sign-i c = omega (arith, c.loop-i.invariant.3.size')
+overflow_cast-abs c = record { fits = omega (arith, reads-signed-lt 3 c.in_ok-magnitude.ensures) }
 
 pub loop-i-preserved : goal.loop-i-preserved
 loop-i-preserved c =
-    let a = c.args in
-    let s = a.bytes.now in
     let o = c.loop-i in
-    let k = c.held_signed-field in
-    let e : (entry a.count_minus1 o.i).read s o.held.at ≡ value (k.result.abs, k.result.sign) k.result.next.at
-    = rw (when-read, le-leb (o.i / 7) a.count_minus1 (omega arith)) (ends-inside s k.result.next.at (k.result.abs, k.result.sign) k.ensures.field c.if-bytes-held.false) in (
-      omega arith,
-      c.if-bytes-held.false,
-      k.ensures.after,
-      reading2-more (entry a.count_minus1) 28 0 false s a.p o.i o.abs o.sign o.held.at o.invariant.3
-          k.result.abs k.result.sign k.result.next.at (omega arith) e,
-    )
+    let n = c.args.count_minus1 in
+    filling2-more (entry n) _ _ _ o.invariant (omega arith) (reads-sent _ no_signed (sent o.i n (omega arith)) c.in_ok-magnitude.ensures)
 
 pub returns : goal.returns
 returns c =
-    let a = c.args in
     let o = c.loop-i in
-    sym (reading2-done (entry a.count_minus1) 28 0 false a.bytes.now a.p o.i o.abs o.sign o.held.at o.invariant.3 (omega arith)
-    (λ j h b. rw (when-read, lt-leb (j / 7) a.count_minus1 (omega arith))))
+    let n = c.args.count_minus1 in
+    filling2-done (entry n) _ _ _ o.invariant (omega arith) (λ j h b. rw (when-read, unsent j n (omega arith)))

@@ -1,53 +1,65 @@
--- `put_cc_coefficients`: the loop has written the first i coefficients; the rest are 0 or the arrays are not taken.
+-- `put_cc_coefficients`: one coefficient more is written, or it is refused; the rest are 0 or the arrays are not taken.
 use mathlib.Core.Path.{◌≡◌}
-use mathlib.Core.Bool.{false}
-use Prim.Native.Nat.{◌+◌, ◌*◌}
+use Prim.Native.Nat.{◌+◌, ◌*◌, ◌<◌}
 use native.Mathlib.Omega.{arith}
-use borrow.Author.Rules.{rules}
-use lib.ListN.{length, get_or}
+use lib.ListN.{length, get_or, take}
+use lib.Seq.{length-take-le}
+use Rattle.std.proofs.lemmas.List.{length_push}
+use Rattle.std.proofs.lemmas.Slice.Zip.{zip_turn, zip_end}
 use Rattle.aps.specs.Codec.{u}
-use Rattle.aps.specs.Elements.{signed, no_number, no_flag, no_signed, zipped}
-use Rattle.aps.proofs.StopLaws.{stops-more}
-use Rattle.aps.proofs.WriteSteps.{writing_start, spans_step, spans-more}
-use Rattle.aps.proofs.SentWrites.{spans-here}
-use Rattle.aps.proofs.ArrayWrites.{first_sent, sent-more, zipped-step, pairs-done}
+use Rattle.aps.specs.Elements.{no_number, no_flag, signed}
+use Rattle.aps.proofs.WriterLaws.{wrote-exit}
+use Rattle.aps.proofs.EntryWrites.{rest-all, pair-more, pair-refused, pairs-done}
 use Rattle.aps.proofs.AlfFilters.{cc-wrote}
 use Rattle.aps.proofs.alf_chroma_write.put_cc_coefficients.Goals as goal
+use Rattle.aps.proofs.alf_chroma_write.put_cc_coefficients.Goals.{In-Some}
 
-pub loop-i-init : goal.loop-i-init
-loop-i-init c =
-    let a = c.args in
-    let s = a.abs.now in
-    (c.requires.0, omega arith, spans-here a.from (4 * 0), writing_start (first_sent no_signed (signed (u 3)) (7 * (a.count_minus1 + 1))) (length s) (zipped s a.sign.now) a.from a.out.now)
+-- the pair at this turn
+turn : (c : In-Some) → (length c.loop-abs.yielded < length (take (7 * (c.args.filters.now.filters_signalled_minus1 + 1)) c.args.filters.now.mapped_coeff_abs))
+    × (c.in-Some.field-0-0.now ≡ get_or (take (7 * (c.args.filters.now.filters_signalled_minus1 + 1)) c.args.filters.now.mapped_coeff_abs) (length c.loop-abs.yielded) c.in-Some.field-0-0.now)
+    × (c.in-Some.field-0-1.now ≡ get_or (take (7 * (c.args.filters.now.filters_signalled_minus1 + 1)) c.args.filters.now.coeff_sign) (length c.loop-abs.yielded) c.in-Some.field-0-1.now)
+turn c =
+    let f = c.args.filters.now in
+    let n = 7 * (f.filters_signalled_minus1 + 1) in
+    let z = c.zip-abs-items.ensures in
+    let i = c.into_iter-abs-iterator.ensures.into_iter_gives in
+    let t = zip_turn (take n f.mapped_coeff_abs) (take n f.coeff_sign) c.loop-abs.yielded c.into_iter-abs-iterator.result c.loop-abs.abs-iterator c.next.new.self c.next.result
+    (rw (i, z.first) c.iter.ensures.rest) (rw i z.second.0) c.loop-abs.yielded_by (c.in-Some.field-0-0, c.in-Some.field-0-1) c.in-Some.is c.next.ensures.steps in
+    (t.0, t.2 _, t.3 _)
 
-pub put_signed-at-requires : goal.put_signed-at-requires
-put_signed-at-requires c =
-    (c.loop-i.invariant.0, stops-more c.loop-i.at (20000 + 4 * c.loop-i.i) 32600 (c.loop-i.invariant.2 20000 c.requires.1) (omega arith), omega arith)
+pub loop-abs-preserved : goal.loop-abs-preserved
+loop-abs-preserved c =
+    let f = c.args.filters.now in
+    let t = turn (goal.at.loop-abs-preserved c).In-Some in
+    let n = length_push c.loop-abs.yielded (c.in-Some.field-0-0, c.in-Some.field-0-1) in
+    record {
+      within = rw n (omega arith);
+      wrote =
+          rw n
+          (pair-more no_number no_flag (signed (u 3)) (7 * (f.filters_signalled_minus1 + 1)) f.mapped_coeff_abs f.coeff_sign c.args.writer.now (omega arith) (omega arith) t.0 t.1 t.2 c.loop-abs.invariant.wrote
+          (rw c.from.ensures at c.in_ok-signed.ensures.wrote));
+    }
 
-pub loop-i-preserved : goal.loop-i-preserved
-loop-i-preserved c =
-    let a = c.args in
-    let s = a.abs.now in
-    let t = a.sign.now in
-    let same : length t ≡ length s = omega arith in
-    let o = c.loop-i in
-    let k = c.put_signed-at in (
-      search rules,
-      omega arith,
-      spans_step a.from o.at k.result 4 o.i o.invariant.2 k.ensures.within,
-      sent-more no_signed (signed (u 3)) (7 * (a.count_minus1 + 1)) (length s) (zipped s t) a.from a.out.now o.i o.at k.result o.out _ (get_or s o.i 0, get_or t o.i false) 4
-          (omega arith) (omega arith) (zipped-step o.i s t 0 false same (omega arith)) o.invariant.3 k.ensures,
-    )
+pub returns-in_err-signed-clause-wrote : goal.returns-in_err-signed-clause-wrote
+returns-in_err-signed-clause-wrote c =
+    let f = c.args.filters.now in
+    let t = turn (goal.at.returns-in_err-signed-clause-wrote c).In-Some in
+    wrote-exit c.from_residual.ensures.1
+    (cc-wrote f.filters_signalled_minus1 (omega arith)
+    (pair-refused no_number no_flag (signed (u 3)) (7 * (f.filters_signalled_minus1 + 1)) f.mapped_coeff_abs f.coeff_sign c.args.writer.now (omega arith) (omega arith) t.0 t.1 t.2 c.loop-abs.invariant.wrote
+    (rw c.from.ensures at c.in_err-signed.ensures.wrote)))
 
-pub returns : goal.returns
-returns c =
-    let a = c.args in
-    let s = a.abs.now in
-    let t = a.sign.now in
-    let same : length t ≡ length s = omega arith in
-    let o = c.loop-i in
-    let m = c.put_none-at in
-    cc-wrote a.count_minus1 s t 112 c.requires.3
-    (pairs-done no_number no_flag (signed (u 3)) (7 * (a.count_minus1 + 1)) s t a.from a.out.now o.i o.at m.result c.put_none.result o.out 112
-    (omega arith) same o.invariant.3 (spans-more a.from o.at (4 * o.i) 112 (omega arith) o.invariant.2)
-    c.zero_bytes.ensures m.ensures c.no_flags.ensures c.put_none.ensures)
+pub returns-clause-wrote : goal.returns-clause-wrote
+returns-clause-wrote c =
+    let f = c.args.filters.now in
+    let n = 7 * (f.filters_signalled_minus1 + 1) in
+    let x = take n f.mapped_coeff_abs in
+    let y = take n f.coeff_sign in
+    let z = c.zip-abs-items.ensures in
+    let i = c.into_iter-abs-iterator.ensures.into_iter_gives in
+    let e = zip_end x y c.loop-abs.yielded c.into_iter-abs-iterator.result c.loop-abs.abs-iterator c.next.new.self c.next.result
+    (rw (i, z.first) c.iter.ensures.rest) (rw i z.second.0) c.loop-abs.yielded_by c.in-None.is c.next.ensures.steps in
+    cc-wrote f.filters_signalled_minus1 (omega arith)
+    (pairs-done no_number no_flag (signed (u 3)) n f.mapped_coeff_abs f.coeff_sign c.args.writer.now (omega arith) (omega arith)
+    (omega (arith, length-take-le n f.mapped_coeff_abs, length-take-le n f.coeff_sign)) c.loop-abs.invariant.wrote
+    (rw (c.all_inferred.ensures, c.all_inferred-2.ensures, rest-all n f.mapped_coeff_abs 28 (omega arith), rest-all n f.coeff_sign 28 (omega arith)) at c.unsent.ensures))

@@ -1,37 +1,48 @@
 -- `put_chroma`: the flag, the count, then the alternatives; nothing where they are not signalled.
-use borrow.Author.Rules.{rules}
-use Prim.Native.Nat.{◌+◌, ◌*◌}
 use native.Mathlib.Omega.{arith}
-use Rattle.bitstream.specs.Fields.{ue_zeros}
-use Rattle.aps.specs.Inner.{chroma_of}
-use Rattle.aps.proofs.StopLaws.{stops-more}
-use Rattle.aps.proofs.AlfWrites.{count-7, chroma-none, chroma-sent}
+use borrow.Author.Tests.{eq-eqb}
+use lib.ListN.{length}
+use Rattle.aps.specs.AlfSyntax.{chroma, chroma_syntax, no_chroma, from_chroma}
+use Rattle.aps.proofs.WriterLaws.{wrote-exit, wrote-via, wrote-▷, wrote-▷-first, wrote-sent, wrote-unsent}
+use Rattle.aps.proofs.AlfWrites.{count-7}
 use Rattle.aps.proofs.alf_chroma_write.put_chroma.Goals as goal
 
-pub returns-then-not-signal : goal.returns-then-not-signal
-returns-then-not-signal c =
-    let a = c.args in
-    chroma-none a.signal (chroma_of a.clip a.count_minus1 a.abs.now a.sign.now a.clips.now) c.requires.2 c.requires.3 c.if-not-signal.true
-    c.no_chroma_sent.ensures c.put_none.ensures
+pub returns-then-not-signal-clause-wrote : goal.returns-then-not-signal-clause-wrote
+unfolding chroma from_chroma
+returns-then-not-signal-clause-wrote c =
+    let f = c.args.filters.now in
+    wrote-via _ _ _ (eq-eqb (length f.coeff_abs) (length f.coeff_sign) (omega arith))
+    (wrote-unsent no_chroma chroma_syntax c.if-not-signal.true (rw c.no_chroma_sent.ensures at c.unsent.ensures))
 
-pub put_flag-flagged-requires : goal.put_flag-flagged-requires
-put_flag-flagged-requires c = (search rules, stops-more c.args.from 14000 32700 c.requires.1 (omega arith))
+pub returns-in_err-flag-clause-wrote : goal.returns-in_err-flag-clause-wrote
+unfolding chroma chroma_syntax from_chroma
+returns-in_err-flag-clause-wrote c =
+    let f = c.args.filters.now in
+    wrote-exit c.from_residual.ensures.1
+    (wrote-via _ _ _ (eq-eqb (length f.coeff_abs) (length f.coeff_sign) (omega arith)) (wrote-sent no_chroma c.if-not-signal.false (wrote-▷-first _ c.in_err-flag.ensures.wrote)))
 
-pub put_ue_to-after_count-requires : goal.put_ue_to-after_count-requires
-put_ue_to-after_count-requires c =
-    (search rules, stops-more c.put_flag-flagged.result (14000 + 1) 32700 (c.put_flag-flagged.ensures.within 14000 c.requires.1) (omega arith), omega arith)
+pub returns-in_err-ue_to : goal.returns-in_err-ue_to
+unfolding chroma chroma_syntax from_chroma
+returns-in_err-ue_to c =
+    let f = c.args.filters.now in
+    record {
+      wrote =
+          wrote-exit c.from_residual-in_err-ue_to.ensures.1
+          (wrote-via _ _ _ (eq-eqb (length f.coeff_abs) (length f.coeff_sign) (omega arith))
+          (wrote-sent no_chroma c.if-not-signal.false (wrote-▷ _ c.in_ok-flag.ensures.wrote (wrote-▷-first _ c.in_err-ue_to.ensures.wrote))));
+      within = omega (arith, count-7);
+    }
 
 pub put_alternatives-requires : goal.put_alternatives-requires
-put_alternatives-requires c = (
-  search rules,
-  stops-more c.put_ue_to-after_count.result (14000 + 1 + (2 * ue_zeros 7 + 1)) 15000 (c.put_ue_to-after_count.ensures.within (14000 + 1) (c.put_flag-flagged.ensures.within 14000 c.requires.1)) (omega (arith, count-7)),
-  c.requires.2,
-  c.requires.3,
-  c.requires.4,
-)
+put_alternatives-requires c = omega (arith, count-7)
 
 pub returns : goal.returns
+unfolding chroma chroma_syntax from_chroma
 returns c =
-    let a = c.args in
-    chroma-sent a.signal (chroma_of a.clip a.count_minus1 a.abs.now a.sign.now a.clips.now) c.requires.2 c.requires.3 c.if-not-signal.false
-    c.put_flag-flagged.ensures c.put_ue_to-after_count.ensures c.put_alternatives.ensures
+    let f = c.args.filters.now in
+    record {
+      wrote =
+          wrote-via _ _ _ (eq-eqb (length f.coeff_abs) (length f.coeff_sign) (omega arith))
+          (wrote-sent no_chroma c.if-not-signal.false (wrote-▷ _ c.in_ok-flag.ensures.wrote (wrote-▷ _ c.in_ok-ue_to.ensures.wrote c.put_alternatives.ensures.wrote)));
+      within = omega (arith, count-7);
+    }

@@ -1,60 +1,34 @@
--- `read_clips`: the loop has read the first i clips, and i is a multiple of 6.
-use mathlib.Core.Path.{◌≡◌, sym, ◌∙◌}
-use Prim.Native.Nat.{◌+◌, ◌*◌}
+-- `read_clips`: the loop has read the first rows.
 use native.Mathlib.Omega.{arith}
-use borrow.Author.Tests.{lt-ltb, le-ltb}
+use borrow.Author.Tests.{le-ltb}
+use Prim.Native.Nat.{◌+◌, ◌-◌, ◌*◌}
+use mathlib.Core.Path.{◌≡◌}
 use lib.ListN.{length}
-use Rattle.aps.proofs.FieldSteps.{each-lacking}
-use Rattle.aps.proofs.Steps.{when-read, reading-done}
-use Rattle.aps.proofs.AlfSteps.{reading-from}
-use Rattle.aps.proofs.ClipSteps.{clip_of, six-clips}
-use Rattle.aps.proofs.StopLaws.{after-end}
+use Rattle.aps.proofs.ClipSteps.{clip_of, clips-more, clips-refused, read-lt}
+use Rattle.aps.proofs.ReaderLaws.{fills-exit, filling-start, filling-done}
+use Rattle.aps.proofs.RowLaws.{part-stored}
+use Rattle.aps.proofs.Steps.{when-read}
 use Rattle.aps.proofs.alf_fields.read_clips.Goals as goal
 
-pub returns-in-Refused : goal.returns-in-Refused
-returns-in-Refused c = rw c.in-Refused.is
+pub loop-row-init : goal.loop-row-init
+loop-row-init c = filling-start (clip_of (6 * c.args.rows)) _ 0 c.requires.2
 
-pub lacks_bits-requires : goal.lacks_bits-requires
-lacks_bits-requires c = (omega arith, omega (arith, rw c.in-End.is at c.requires.1), omega arith)
+pub returns-in_err-u : goal.returns-in_err-u
+returns-in_err-u c = fills-exit _ _ _ _ c.from_residual.ensures.1 (clips-refused (6 * c.args.rows) _ c.requires.0 c.loop-row.invariant (omega arith) c.in_err-u.ensures)
 
-pub returns-then-lacks_bits : goal.returns-then-lacks_bits
-returns-then-lacks_bits c =
-    let a = c.args in
-    sym (after-end _ c.in-End.is
-    ∙ each-lacking (clip_of a.n) 2 0 a.n (length a.clip.now) a.bytes.now c.in-End.p (omega arith) (λ j q h b. rw (when-read, lt-ltb j a.n (omega arith)))
-    (sym c.lacks_bits.ensures ∙ c.if-lacks_bits.true))
+pub six_clips-six-requires : goal.six_clips-six-requires
+six_clips-six-requires c = read-lt 12 c.in_ok-u.ensures
 
-pub loop-i-init : goal.loop-i-init
-loop-i-init c =
-    let a = c.args in
-    let z : c.in-End.p + 2 * 0 ≡ c.in-End.p = omega arith in
-    (omega arith, omega arith, rw z (reading-from (clip_of a.n) (length a.clip.now) 0 a.bytes.now c.in-End.p a.clip.now c.requires.5))
-
-pub overflow_add-p : goal.overflow_add-p
-overflow_add-p c = omega (arith, rw c.in-End.is at c.requires.1)
-
-pub put_six-requires : goal.put_six-requires
-put_six-requires c = (omega (arith, c.loop-i.invariant.2.size), omega arith)
-
-pub loop-i-preserved : goal.loop-i-preserved
-loop-i-preserved c =
-    let a = c.args in
-    let o = c.loop-i in
-    let w = c.window in
-    let there = sym c.lacks_bits.ensures ∙ c.if-lacks_bits.false in (
-      omega arith,
-      omega arith,
-      rw c.put_six.ensures (six-clips a.n (length a.clip.now) a.bytes.now c.in-End.p (omega arith) there o.i w.result o.clip o.invariant.2 (omega arith) w.ensures),
-    )
-
-pub overflow_add-result : goal.overflow_add-result
-overflow_add-result c = omega (arith, rw c.in-End.is at c.requires.1)
+pub loop-row-preserved : goal.loop-row-preserved
+loop-row-preserved c =
+    let o = c.loop-row in
+    let m : 6 * (o.row + 1) ≡ 6 * o.row + 6 = omega arith in
+    let k = c.copy_from_slice in
+    let n : length k.new.self ≡ 6 * o.row + 6 - 6 * o.row = rw (k.ensures.after, c.six_clips-six.ensures) (omega arith) in
+    rw (m, part-stored o.clips k.new.self (6 * o.row) _ n (omega (arith, o.invariant.entries.size)), k.ensures.after, c.six_clips-six.ensures)
+    (clips-more (6 * c.args.rows) _ c.requires.0 o.invariant (omega arith) c.in_ok-u.ensures)
 
 pub returns : goal.returns
 returns c =
-    let a = c.args in
-    let o = c.loop-i in
-    let i : o.i ≡ a.n = omega arith in
-    sym (after-end _ c.in-End.is
-    ∙ rw i at (reading-done (clip_of a.n) (length a.clip.now) 0 a.bytes.now c.in-End.p o.i o.clip (c.in-End.p + 2 * o.i) o.invariant.2 (omega arith)
-    (λ j h b. rw (when-read, le-ltb j a.n (omega arith)))))
+    let o = c.loop-row in
+    filling-done (clip_of (6 * c.args.rows)) _ 0 o.invariant (omega arith) (λ j h b. rw (when-read, le-ltb j (6 * c.args.rows) (omega arith)))

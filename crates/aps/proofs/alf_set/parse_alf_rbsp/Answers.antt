@@ -1,47 +1,33 @@
 -- `parse_alf_rbsp`: by its kind the set with its filters, or a head and filters of 0.
-use mathlib.Core.Path.{refl, subst}
-use Rattle.aps.specs.Inner.{Opens}
+use mathlib.Core.Path.{refl, sym, ap, ◌∙◌}
+use Rattle.aps.specs.Rbsp.{read_rbsp}
 use Rattle.aps.specs.ApsSyntax.{empty_set, zero_lmcs, zero_scaling}
 use Rattle.aps.specs.declared.aps.VvcAps.{VvcAps}
 use Rattle.aps.proofs.Answers.{heads, alf-is, same-part, other-part, refused-part}
 use Rattle.aps.proofs.RbspSteps.{in-limits}
 use Rattle.aps.proofs.alf_set.parse_alf_rbsp.Goals as goal
 
-pub alf_alone-requires : goal.alf_alone-requires
-alf_alone-requires c = subst (Opens c.args.bytes.now) c.in-Alf.is c.open_rbsp.ensures
-
-pub lmcs_head-requires : goal.lmcs_head-requires
-lmcs_head-requires c = subst (Opens c.args.bytes.now) c.in-Lmcs.is c.open_rbsp.ensures
-
-pub scaling_head-requires : goal.scaling_head-requires
-scaling_head-requires c = subst (Opens c.args.bytes.now) c.in-Scaling.is c.open_rbsp.ensures
+pub returns-in-Err : goal.returns-in-Err
+unfolding empty_set
+returns-in-Err c =
+    let r = refused-part (λ (a : VvcAps). a.alf) c.refuse_head.result c.no_alf_in-in-Err.ensures _ c.refuse_head.ensures refl c.in-Err.ensures in record { answer = r.0; head = r.1.0; alf = r.1.1 }
 
 pub returns-in-Alf : goal.returns-in-Alf
 returns-in-Alf c =
-    let s = c.args.bytes.now in
-    let o = subst (Opens s) c.in-Alf.is c.open_rbsp.ensures in
+    let o = c.in-Ok.ensures in
     let r = c.alf_alone.result in
     let e = c.alf_alone.ensures in
     let r = same-part (λ (a : VvcAps). a.alf) r.outcome
-    (heads r.outcome r.head r.alf zero_lmcs zero_scaling s e) (alf-is r.outcome r.head r.alf zero_lmcs zero_scaling s e) (in-limits s o.0) in record { answer = r.0; head = r.1.0; alf = r.1.1 }
+    (heads r.outcome r.head r.alf zero_lmcs zero_scaling _ e) (alf-is r.outcome r.head r.alf zero_lmcs zero_scaling _ e) (in-limits _ o.0 ∙ ap read_rbsp (sym o.1)) in record { answer = r.0; head = r.1.0; alf = r.1.1 }
 
 pub returns-in-Lmcs : goal.returns-in-Lmcs
 returns-in-Lmcs c =
-    let s = c.args.bytes.now in
-    let o = subst (Opens s) c.in-Lmcs.is c.open_rbsp.ensures in
+    let o = c.in-Ok.ensures in
     let k = c.lmcs_head in
-    let r = other-part (λ (a : VvcAps). a.alf) k.result c.no_alf_in.ensures k.ensures.answer k.ensures.others.0 (in-limits s o.0) in record { answer = r.0; head = r.1.0; alf = r.1.1 }
+    let r = other-part (λ (a : VvcAps). a.alf) k.result c.no_alf_in.ensures k.ensures.answer k.ensures.others.0 (in-limits _ o.0 ∙ ap read_rbsp (sym o.1)) in record { answer = r.0; head = r.1.0; alf = r.1.1 }
 
 pub returns-in-Scaling : goal.returns-in-Scaling
 returns-in-Scaling c =
-    let s = c.args.bytes.now in
-    let o = subst (Opens s) c.in-Scaling.is c.open_rbsp.ensures in
+    let o = c.in-Ok.ensures in
     let k = c.scaling_head in
-    let r = other-part (λ (a : VvcAps). a.alf) k.result c.no_alf_in-in-Scaling.ensures k.ensures.answer k.ensures.others.0 (in-limits s o.0) in record { answer = r.0; head = r.1.0; alf = r.1.1 }
-
-pub returns-in-Refused : goal.returns-in-Refused
-unfolding empty_set
-returns-in-Refused c =
-    let s = c.args.bytes.now in
-    let k = c.refuse_head in
-    let r = refused-part (λ (a : VvcAps). a.alf) k.result c.no_alf_in-in-Refused.ensures _ k.ensures refl (subst (Opens s) c.in-Refused.is c.open_rbsp.ensures) in record { answer = r.0; head = r.1.0; alf = r.1.1 }
+    let r = other-part (λ (a : VvcAps). a.alf) k.result c.no_alf_in-in-Scaling.ensures k.ensures.answer k.ensures.others.0 (in-limits _ o.0 ∙ ap read_rbsp (sym o.1)) in record { answer = r.0; head = r.1.0; alf = r.1.1 }

@@ -1,46 +1,53 @@
--- `put_coefficients`: the loop has written the first i coefficients; the rest are 0 or the arrays are not taken.
-use mathlib.Core.Bool.{false}
-use Prim.Native.Nat.{◌+◌, ◌*◌}
+-- `put_coefficients`: one coefficient more is written, or it is refused; the rest are 0 or the arrays are not taken.
+use mathlib.Core.Path.{◌≡◌, refl}
+use Prim.Native.Nat.{◌<◌}
 use native.Mathlib.Omega.{arith}
-use borrow.Author.Rules.{rules}
-use lib.ListN.{length, get_or}
-use Rattle.aps.specs.Elements.{no_number, no_flag, no_signed, zipped}
+use lib.ListN.{length, get_or, take}
+use lib.Seq.{length-take-le}
+use Rattle.std.proofs.lemmas.List.{length_push}
+use Rattle.std.proofs.lemmas.Slice.Zip.{zip_turn, zip_end}
+use Rattle.aps.specs.Elements.{no_number, no_flag}
 use Rattle.aps.specs.AlfSyntax.{coefficient}
-use Rattle.aps.proofs.StopLaws.{stops-more}
-use Rattle.aps.proofs.WriteSteps.{writing_start, spans_step, spans-more}
-use Rattle.aps.proofs.SentWrites.{spans-here}
-use Rattle.aps.proofs.ArrayWrites.{first_sent, sent-more, zipped-step, pairs-done}
+use Rattle.aps.proofs.WriterLaws.{wrote-exit}
+use Rattle.aps.proofs.EntryWrites.{rest-all, pair-more, pair-refused, pairs-done}
 use Rattle.aps.proofs.alf_write.put_coefficients.Goals as goal
+use Rattle.aps.proofs.alf_write.put_coefficients.Goals.{In-Some}
 
-pub loop-i-init : goal.loop-i-init
-loop-i-init c =
+-- the pair at this turn
+turn : (c : In-Some) → (length c.loop-abs.yielded < length (take c.args.n c.args.abs.now)) × (c.in-Some.field-0-0.now ≡ get_or (take c.args.n c.args.abs.now) (length c.loop-abs.yielded) c.in-Some.field-0-0.now)
+    × (c.in-Some.field-0-1.now ≡ get_or (take c.args.n c.args.sign.now) (length c.loop-abs.yielded) c.in-Some.field-0-1.now)
+turn c =
+    let z = c.zip-abs-items.ensures in
+    let i = c.into_iter-abs-iterator.ensures.into_iter_gives in
+    let t = zip_turn (take c.args.n c.args.abs.now) (take c.args.n c.args.sign.now) c.loop-abs.yielded c.into_iter-abs-iterator.result c.loop-abs.abs-iterator c.next.new.self c.next.result
+    (rw (i, z.first) c.iter.ensures.rest) (rw i z.second.0) c.loop-abs.yielded_by (c.in-Some.field-0-0, c.in-Some.field-0-1) c.in-Some.is c.next.ensures.steps in
+    (t.0, t.2 _, t.3 _)
+
+pub loop-abs-preserved : goal.loop-abs-preserved
+loop-abs-preserved c =
     let a = c.args in
-    let s = a.abs.now in
-    (c.requires.0, omega arith, spans-here a.from (16 * 0), writing_start (first_sent no_signed coefficient a.n) (length s) (zipped s a.sign.now) a.from a.out.now)
+    let t = turn (goal.at.loop-abs-preserved c).In-Some in
+    let n = length_push c.loop-abs.yielded (c.in-Some.field-0-0, c.in-Some.field-0-1) in
+    record {
+      within = rw n (omega arith);
+      wrote = rw n (pair-more no_number no_flag coefficient a.n a.abs.now a.sign.now a.writer.now c.requires.1 c.requires.3 t.0 t.1 t.2 c.loop-abs.invariant.wrote c.in_ok-coefficient.ensures.wrote);
+    }
 
-pub put_coefficient-at-requires : goal.put_coefficient-at-requires
-put_coefficient-at-requires c =
-    (c.loop-i.invariant.0, stops-more c.loop-i.at (20000 + 16 * c.loop-i.i) 32600 (c.loop-i.invariant.2 20000 c.requires.1) (omega arith))
-
-pub loop-i-preserved : goal.loop-i-preserved
-loop-i-preserved c =
+pub returns-in_err-coefficient-clause-wrote : goal.returns-in_err-coefficient-clause-wrote
+returns-in_err-coefficient-clause-wrote c =
     let a = c.args in
-    let s = a.abs.now in
-    let t = a.sign.now in
-    let o = c.loop-i in
-    let k = c.put_coefficient-at in (
-      search rules,
-      omega arith,
-      spans_step a.from o.at k.result 16 o.i o.invariant.2 k.ensures.within,
-      sent-more no_signed coefficient a.n (length s) (zipped s t) a.from a.out.now o.i o.at k.result o.out _ (get_or s o.i 0, get_or t o.i false) 16
-          (omega arith) (omega arith) (zipped-step o.i s t 0 false c.requires.4 (omega arith)) o.invariant.3 k.ensures,
-    )
+    let t = turn (goal.at.returns-in_err-coefficient-clause-wrote c).In-Some in
+    wrote-exit c.from_residual.ensures.1
+    (pair-refused no_number no_flag coefficient a.n a.abs.now a.sign.now a.writer.now c.requires.1 c.requires.3 t.0 t.1 t.2 c.loop-abs.invariant.wrote c.in_err-coefficient.ensures.wrote)
 
-pub returns : goal.returns
-returns c =
+pub returns-clause-wrote : goal.returns-clause-wrote
+returns-clause-wrote c =
     let a = c.args in
-    let o = c.loop-i in
-    let m = c.put_none-at in
-    pairs-done no_number no_flag coefficient a.n a.abs.now a.sign.now a.from a.out.now o.i o.at m.result c.put_none.result o.out (16 * a.n)
-    (omega arith) c.requires.4 o.invariant.3 (spans-more a.from o.at (16 * o.i) (16 * a.n) (omega arith) o.invariant.2)
-    c.zero_numbers.ensures m.ensures c.no_flags.ensures c.put_none.ensures
+    let x = take a.n a.abs.now in
+    let y = take a.n a.sign.now in
+    let z = c.zip-abs-items.ensures in
+    let i = c.into_iter-abs-iterator.ensures.into_iter_gives in
+    let e = zip_end x y c.loop-abs.yielded c.into_iter-abs-iterator.result c.loop-abs.abs-iterator c.next.new.self c.next.result
+    (rw (i, z.first) c.iter.ensures.rest) (rw i z.second.0) c.loop-abs.yielded_by c.in-None.is c.next.ensures.steps in
+    pairs-done no_number no_flag coefficient a.n a.abs.now a.sign.now a.writer.now c.requires.1 c.requires.3 (omega (arith, length-take-le a.n a.abs.now, length-take-le a.n a.sign.now)) c.loop-abs.invariant.wrote
+    (rw (c.all_inferred.ensures, c.all_inferred-2.ensures, rest-all a.n a.abs.now _ refl, rest-all a.n a.sign.now _ refl) at c.unsent.ensures)

@@ -1,17 +1,14 @@
--- `put_coefficients`: the loop has written the first i coefficients; the rest are 0 or the arrays are not taken.
-use mathlib.Core.Path.{◌≡◌}
-use Prim.Native.Nat.{◌-◌, ◌*◌, ◌≤◌}
+-- `put_coefficients`: the loop has written the coefficients before this one.
+use Prim.Native.Nat.{◌+◌, ◌*◌, ◌≤◌}
 use lib.ListN.{length}
-use Rattle.aps.specs.Elements.{no_signed, zipped}
+use Rattle.aps.specs.Elements.{no_number, no_flag}
 use Rattle.aps.specs.AlfSyntax.{coefficient}
-use Rattle.aps.specs.Inner.{Spans}
-use Rattle.aps.proofs.WriteSteps.{Writing}
-use Rattle.aps.proofs.ArrayWrites.{first_sent}
+use Rattle.aps.proofs.EntryWrites.{PairsWriting}
 use Rattle.aps.proofs.alf_write.put_coefficients.Given as goal
 
-abbrev pub invariant-loop-i : goal.invariant-loop-i
-invariant-loop-i l =
-    (length l.out ≡ 4096) × (l.i ≤ l.n) × Spans l.initial.at l.at (16 * l.i) × Writing (first_sent no_signed coefficient l.n) (length l.abs) (zipped l.abs l.sign) l.initial.at l.initial.out l.i l.at l.out
-
-abbrev pub decreases-loop-i : goal.decreases-loop-i
-decreases-loop-i l = l.n - l.i
+abbrev pub invariant-loop-abs : goal.invariant-loop-abs
+invariant-loop-abs l =
+    record {
+      within : l.writer.at ≤ l.initial.writer.at + 16 * length l.yielded;
+      wrote : PairsWriting no_number no_flag coefficient l.n l.abs l.sign l.initial.writer (length l.yielded) l.writer;
+    }

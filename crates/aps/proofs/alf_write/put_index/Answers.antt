@@ -1,18 +1,19 @@
 -- `put_index`: an index above the count is not taken, else it is a field.
-use borrow.Author.Tests.{le-leb}
+use borrow.Author.Tests.{le-leb, lt-leb}
+use mathlib.Core.Bool.{and-false}
 use native.Mathlib.Omega.{arith}
 use lib.Dec.{leb}
-use Rattle.aps.specs.Codec.{u}
-use Rattle.aps.proofs.WriteSteps.{wrote-judged}
-use Rattle.aps.proofs.AlfFilters.{index-bad}
+use Rattle.aps.specs.Codec.{u, judged}
+use Rattle.aps.proofs.WriterLaws.{wrote-not, wrote-judged}
 use Rattle.aps.proofs.alf_write.put_index.Goals as goal
 
-pub returns-then-count_minus1-index : goal.returns-then-count_minus1-index
-returns-then-count_minus1-index c =
+pub returns-then-count_minus1-index-clause-wrote : goal.returns-then-count_minus1-index-clause-wrote
+unfolding judged
+returns-then-count_minus1-index-clause-wrote c =
     let a = c.args in
-    index-bad a.count_minus1 a.bits a.index c.if-count_minus1-index.true c.put_none.ensures
+    wrote-not (rw (lt-leb a.index a.count_minus1 (omega arith)) (and-false ((u a.bits).ok a.index)))
 
-pub returns : goal.returns
-returns c =
+pub returns-clause-wrote : goal.returns-clause-wrote
+returns-clause-wrote c =
     let a = c.args in
-    wrote-judged (u a.bits) a.index a.bits (λ x. leb x a.count_minus1) (le-leb a.index a.count_minus1 (omega arith)) c.put_u.ensures
+    wrote-judged (λ x. leb x a.count_minus1) (le-leb a.index a.count_minus1 (omega arith)) (rw c.from-index.ensures at c.u.ensures.wrote)

@@ -1,51 +1,43 @@
--- `put_indexes`: nothing is sent of one filter; else the loop has written the first i indexes.
-use mathlib.Core.Path.{ap, ◌∙◌}
-use Prim.Native.Nat.{◌+◌, ◌*◌}
+-- `put_indexes`: nothing is sent of one filter; else one index more is written, or it is refused.
 use native.Mathlib.Omega.{arith}
-use borrow.Author.Rules.{rules}
-use lib.ListN.{get_or}
 use lib.Seq.{drop-cons}
-use Rattle.aps.specs.Inner.{unsent}
-use Rattle.aps.proofs.StopLaws.{stops-more}
+use Rattle.aps.specs.Codec.{u, judged}
+use Rattle.aps.specs.Elements.{no_number}
+use Rattle.aps.specs.AlfSyntax.{ceil_log2}
+use lib.Dec.{leb}
 use Rattle.aps.proofs.AlfSteps.{index}
-use Rattle.aps.proofs.WriteSteps.{writing_start, writing_more, spans_step, spans-more}
-use Rattle.aps.proofs.SentWrites.{spans-here}
-use Rattle.aps.proofs.ArrayWrites.{wrote-each}
-use Rattle.aps.proofs.AlfFilters.{index-sent, indexes-none}
+use Rattle.aps.proofs.WriterLaws.{wrote-exit, writing_more, writing-refused, writing-done}
+use Rattle.aps.proofs.EntryWrites.{none-sent}
+use Rattle.aps.proofs.AlfFilters.{index-sent}
 use Rattle.aps.proofs.alf_write.put_indexes.Goals as goal
 
-pub returns-then-count_minus1-eq0 : goal.returns-then-count_minus1-eq0
-returns-then-count_minus1-eq0 c =
-    let a = c.args in
-    indexes-none a.count_minus1 a.idx.now 800 c.if-count_minus1-eq0.true c.requires.3 (c.put_none.ensures ∙ ap (unsent a.from) c.zero_bytes.ensures)
+pub returns-then-count_minus1-eq0-clause-wrote : goal.returns-then-count_minus1-eq0-clause-wrote
+returns-then-count_minus1-eq0-clause-wrote c =
+    rw c.if-count_minus1-eq0.true
+    (none-sent no_number (judged (λ x. leb x 0) (u (ceil_log2 1))) 25 c.args.indexes.now (omega arith) (rw c.all_inferred.ensures at c.unsent.ensures))
 
-pub loop-i-init : goal.loop-i-init
-loop-i-init c =
+pub returns-in_err-put_index-clause-wrote : goal.returns-in_err-put_index-clause-wrote
+returns-in_err-put_index-clause-wrote c =
     let a = c.args in
-    (c.requires.0, omega arith, spans-here a.from (32 * 0), writing_start (λ i. index a.count_minus1) 25 a.idx.now a.from a.out.now)
+    let o = c.loop-index in
+    let g = c.ceil_log2-bits.ensures in
+    wrote-exit c.from_residual.ensures.1
+    (writing-refused (λ i. index a.count_minus1) 25 a.indexes.now a.writer.now (omega arith) (drop-cons a.indexes.now o.index-index 0 (omega arith)) o.invariant.wrote
+    (index-sent g.0 c.if-count_minus1-eq0.false c.in_err-put_index.ensures.wrote))
 
-pub put_index-at-requires : goal.put_index-at-requires
-put_index-at-requires c =
-    (c.loop-i.invariant.0, stops-more c.loop-i.at (30000 + 32 * c.loop-i.i) 32700 (c.loop-i.invariant.2 30000 c.requires.1) (omega arith), c.ceil_log2-bits.ensures.1)
-
-pub loop-i-preserved : goal.loop-i-preserved
-loop-i-preserved c =
-    let g = c.ceil_log2-bits in
+pub loop-index-preserved : goal.loop-index-preserved
+loop-index-preserved c =
     let a = c.args in
-    let s = a.idx.now in
-    let n = a.count_minus1 in
-    let o = c.loop-i in
-    let k = c.put_index-at in
-    let w = index-sent n g.result (get_or s o.i 0) g.ensures.0 g.ensures.1 c.if-count_minus1-eq0.false k.ensures in (
-      search rules,
-      omega arith,
-      spans_step a.from o.at k.result 32 o.i o.invariant.2 w.within,
-      writing_more (λ i. index n) 25 s a.from a.out.now o.i o.at k.result o.out _ (get_or s o.i 0) 32 (omega arith) (drop-cons s o.i 0 (omega arith)) o.invariant.3 w,
-    )
+    let o = c.loop-index in
+    let g = c.ceil_log2-bits.ensures in
+    record {
+      within = omega arith;
+      wrote =
+          writing_more (λ i. index a.count_minus1) 25 a.indexes.now a.writer.now (omega arith) (drop-cons a.indexes.now o.index-index 0 (omega arith)) o.invariant.wrote
+          (index-sent g.0 c.if-count_minus1-eq0.false c.in_ok-put_index.ensures.wrote);
+    }
 
-pub returns : goal.returns
-returns c =
+pub returns-clause-wrote : goal.returns-clause-wrote
+returns-clause-wrote c =
     let a = c.args in
-    let o = c.loop-i in
-    wrote-each (λ i. index a.count_minus1) 25 a.idx.now a.from a.out.now o.i o.at o.out 800 (omega arith) c.requires.3 o.invariant.3
-    (spans-more a.from o.at (32 * o.i) 800 (omega arith) o.invariant.2)
+    writing-done (λ i. index a.count_minus1) 25 a.indexes.now a.writer.now (omega arith) (omega arith) c.loop-index.invariant.wrote

@@ -1,38 +1,37 @@
 -- `write_alf_data`: the four flags, then what they announce.
-use borrow.Author.Rules.{rules}
-use Prim.Native.Nat.{◌+◌}
-use native.Mathlib.Omega.{arith}
-use Rattle.aps.proofs.StopLaws.{stops-more}
-use Rattle.aps.proofs.AlfWrites.{alf-wrote}
+use mathlib.Core.Path.{refl}
+use Rattle.aps.specs.AlfSyntax.{alf, alf_syntax, from_alf}
+use Rattle.aps.proofs.WriterLaws.{wrote-exit, wrote-via, wrote-▷, wrote-▷-first}
 use Rattle.aps.proofs.alf_write.write_alf_data.Goals as goal
 
-pub put_flag-a-requires : goal.put_flag-a-requires
-put_flag-a-requires c = (search rules, stops-more c.args.from 100 32700 c.requires.1 (omega arith))
+pub returns-in_err-flag-clause-wrote : goal.returns-in_err-flag-clause-wrote
+unfolding alf alf_syntax from_alf
+returns-in_err-flag-clause-wrote c = wrote-exit c.from_residual.ensures.1 (wrote-via _ _ _ refl (wrote-▷-first _ c.in_err-flag.ensures.wrote))
 
-pub put_chroma_flag-b-requires : goal.put_chroma_flag-b-requires
-put_chroma_flag-b-requires c =
-    (search rules, stops-more c.put_flag-a.result (100 + 1) 32700 (c.put_flag-a.ensures.within 100 c.requires.1) (omega arith))
+pub returns-in_err-put_chroma_flag-clause-wrote : goal.returns-in_err-put_chroma_flag-clause-wrote
+unfolding alf alf_syntax from_alf
+returns-in_err-put_chroma_flag-clause-wrote c = wrote-exit c.from_residual-in_err-put_chroma_flag.ensures.1 (wrote-via _ _ _ refl (wrote-▷ _ c.in_ok-flag.ensures.wrote (wrote-▷-first _ c.in_err-put_chroma_flag.ensures.wrote)))
 
-pub put_chroma_flag-c-requires : goal.put_chroma_flag-c-requires
-put_chroma_flag-c-requires c =
-    (search rules, stops-more c.put_chroma_flag-b.result (100 + 1 + 1) 32700 (c.put_chroma_flag-b.ensures.within (100 + 1) (c.put_flag-a.ensures.within 100 c.requires.1)) (omega arith))
+pub returns-in_err-put_chroma_flag-2-clause-wrote : goal.returns-in_err-put_chroma_flag-2-clause-wrote
+unfolding alf alf_syntax from_alf
+returns-in_err-put_chroma_flag-2-clause-wrote c = wrote-exit c.from_residual-in_err-put_chroma_flag-2.ensures.1 (wrote-via _ _ _ refl (wrote-▷ _ c.in_ok-flag.ensures.wrote (wrote-▷ _ c.in_ok-put_chroma_flag.ensures.wrote (wrote-▷-first _ c.in_err-put_chroma_flag-2.ensures.wrote))))
 
-pub put_chroma_flag-e-requires : goal.put_chroma_flag-e-requires
-put_chroma_flag-e-requires c = (
-  search rules,
-  stops-more c.put_chroma_flag-c.result (100 + 1 + 1 + 1) 32700
-      (c.put_chroma_flag-c.ensures.within (100 + 1 + 1) (c.put_chroma_flag-b.ensures.within (100 + 1) (c.put_flag-a.ensures.within 100 c.requires.1))) (omega arith),
-)
+pub returns-in_err-put_chroma_flag-3-clause-wrote : goal.returns-in_err-put_chroma_flag-3-clause-wrote
+unfolding alf alf_syntax from_alf
+returns-in_err-put_chroma_flag-3-clause-wrote c = wrote-exit c.from_residual-in_err-put_chroma_flag-3.ensures.1 (wrote-via _ _ _ refl (wrote-▷ _ c.in_ok-flag.ensures.wrote (wrote-▷ _ c.in_ok-put_chroma_flag.ensures.wrote (wrote-▷ _ c.in_ok-put_chroma_flag-2.ensures.wrote (wrote-▷-first _ c.in_err-put_chroma_flag-3.ensures.wrote)))))
 
-pub put_alf_filters-requires : goal.put_alf_filters-requires
-put_alf_filters-requires c = (
-  search rules,
-  stops-more c.put_chroma_flag-e.result (100 + 1 + 1 + 1 + 1) 1000
-      (c.put_chroma_flag-e.ensures.within (100 + 1 + 1 + 1)
-      (c.put_chroma_flag-c.ensures.within (100 + 1 + 1) (c.put_chroma_flag-b.ensures.within (100 + 1) (c.put_flag-a.ensures.within 100 c.requires.1)))) (omega arith),
-)
+pub returns-in_err-put_luma-clause-wrote : goal.returns-in_err-put_luma-clause-wrote
+unfolding alf alf_syntax from_alf
+returns-in_err-put_luma-clause-wrote c = wrote-exit c.from_residual-in_err-put_luma.ensures.1 (wrote-via _ _ _ refl (wrote-▷ _ c.in_ok-flag.ensures.wrote (wrote-▷ _ c.in_ok-put_chroma_flag.ensures.wrote (wrote-▷ _ c.in_ok-put_chroma_flag-2.ensures.wrote (wrote-▷ _ c.in_ok-put_chroma_flag-3.ensures.wrote (wrote-▷-first _ c.in_err-put_luma.ensures.wrote))))))
 
-pub returns : goal.returns
-returns c =
-    let a = c.args in
-    alf-wrote a.chroma a.d c.put_flag-a.ensures c.put_chroma_flag-b.ensures c.put_chroma_flag-c.ensures c.put_chroma_flag-e.ensures c.put_alf_filters.ensures
+pub returns-in_err-put_chroma-clause-wrote : goal.returns-in_err-put_chroma-clause-wrote
+unfolding alf alf_syntax from_alf
+returns-in_err-put_chroma-clause-wrote c = wrote-exit c.from_residual-in_err-put_chroma.ensures.1 (wrote-via _ _ _ refl (wrote-▷ _ c.in_ok-flag.ensures.wrote (wrote-▷ _ c.in_ok-put_chroma_flag.ensures.wrote (wrote-▷ _ c.in_ok-put_chroma_flag-2.ensures.wrote (wrote-▷ _ c.in_ok-put_chroma_flag-3.ensures.wrote (wrote-▷ _ c.in_ok-put_luma.ensures.wrote (wrote-▷-first _ c.in_err-put_chroma.ensures.wrote)))))))
+
+pub returns-in_err-put_cc-clause-wrote : goal.returns-in_err-put_cc-clause-wrote
+unfolding alf alf_syntax from_alf
+returns-in_err-put_cc-clause-wrote c = wrote-exit c.from_residual-in_err-put_cc.ensures.1 (wrote-via _ _ _ refl (wrote-▷ _ c.in_ok-flag.ensures.wrote (wrote-▷ _ c.in_ok-put_chroma_flag.ensures.wrote (wrote-▷ _ c.in_ok-put_chroma_flag-2.ensures.wrote (wrote-▷ _ c.in_ok-put_chroma_flag-3.ensures.wrote (wrote-▷ _ c.in_ok-put_luma.ensures.wrote (wrote-▷ _ c.in_ok-put_chroma.ensures.wrote (wrote-▷-first _ c.in_err-put_cc.ensures.wrote))))))))
+
+pub returns-clause-wrote : goal.returns-clause-wrote
+unfolding alf alf_syntax from_alf
+returns-clause-wrote c = wrote-via _ _ _ refl (wrote-▷ _ c.in_ok-flag.ensures.wrote (wrote-▷ _ c.in_ok-put_chroma_flag.ensures.wrote (wrote-▷ _ c.in_ok-put_chroma_flag-2.ensures.wrote (wrote-▷ _ c.in_ok-put_chroma_flag-3.ensures.wrote (wrote-▷ _ c.in_ok-put_luma.ensures.wrote (wrote-▷ _ c.in_ok-put_chroma.ensures.wrote (wrote-▷ _ c.in_ok-put_cc.ensures.wrote c.put_cc-2.ensures.wrote)))))))

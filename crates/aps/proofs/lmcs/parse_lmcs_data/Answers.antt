@@ -1,34 +1,49 @@
--- `parse_lmcs_data`: the head, then what follows it.
-use mathlib.Core.Path.{◌≡◌, sym, ◌∙◌}
-use Rattle.bitstream.specs.Outcome.{value}
+-- `parse_lmcs_data`: the head, the codewords, then the chroma delta, whose 3 bits fit a byte.
+use mathlib.Core.Path.{sym, ap, ◌∙◌}
+use native.Mathlib.Omega.{arith}
 use Rattle.aps.specs.Codec.{ue, ◌▷◌}
-use Rattle.aps.specs.LmcsSyntax.{in_range, lmcs_head}
-use Rattle.aps.specs.Inner.{outcome_stop}
-use Rattle.aps.proofs.Answers.{answered}
-use Rattle.aps.proofs.CodecLaws.{inside}
-use Rattle.aps.proofs.LmcsLaws.{head-law}
-use Rattle.aps.proofs.LmcsSteps.{lmcs-refused, lmcs-read}
+use Rattle.aps.specs.Elements.{no_signed}
+use Rattle.aps.specs.ApsSyntax.{zero_lmcs}
+use Rattle.aps.specs.LmcsSyntax.{in_range, lmcs, lmcs_syntax, to_lmcs}
+use Rattle.aps.specs.declared.lmcs.VvcLmcsData.{VvcLmcsData}
+use Rattle.aps.proofs.FieldSteps.{signed-u-lt}
+use Rattle.aps.proofs.ReaderLaws.{fills-exit, reads-via, reads-▷, reads-▷-first, reads-sent, reads-unsent, stays}
 use Rattle.aps.proofs.Steps.{judged-true}
 use Rattle.aps.proofs.lmcs.parse_lmcs_data.Goals as goal
-use Rattle.aps.proofs.lmcs.parse_lmcs_data.Goals.{In-End}
 
--- what the head gave
-head : (c : In-End) → lmcs_head.read c.args.bytes.now c.args.p ≡ value (c.read_head-head.result.min, (c.read_head-head.result.max, c.read_head-head.result.prec)) c.in-End.q
-head c =
-    let k = c.read_head-head in
-    answered (λ st. outcome_stop st (k.result.min, (k.result.max, k.result.prec))) c.in-End.is k.ensures
+pub returns-in_err-read_head : goal.returns-in_err-read_head
+unfolding lmcs lmcs_syntax
+returns-in_err-read_head c = fills-exit _ _ _ _ c.from_residual.ensures.1 (reads-via _ _ _ (reads-▷-first _ c.in_err-read_head.ensures.field))
 
-pub read_rest-requires : goal.read_rest-requires
-read_rest-requires c =
-    let h = (head (goal.at.read_rest-requires c).In-End) in
-    let b = c.requires in
-    (b.0, inside head-law _ _ _ _ h b.1, judged-true in_range (ue ▷ λ min. ue ▷ λ max. ue) _ _ h, b.2, b.3)
+pub read_codewords-requires : goal.read_codewords-requires
+unfolding zero_lmcs
+read_codewords-requires c =
+    let k = c.in_ok-read_head.ensures in
+    (judged-true in_range (ue ▷ λ min. ue ▷ λ max. ue) _ _ (sym k.field.field), k.others.0 ∙ ap (λ (d : VvcLmcsData). d.lmcs_delta_abs_cw) c.requires, k.others.1 ∙ ap (λ (d : VvcLmcsData). d.lmcs_delta_sign_cw_flag) c.requires)
 
-pub returns-in-End : goal.returns-in-End
-returns-in-End c = c.read_rest.ensures ∙ sym (lmcs-read _ _ _ _ _ (head (goal.at.returns-in-End c).In-End))
+pub returns-in_err-read_codewords : goal.returns-in_err-read_codewords
+unfolding lmcs lmcs_syntax
+returns-in_err-read_codewords c =
+    fills-exit _ _ _ _ c.from_residual-in_err-read_codewords.ensures.1
+    (reads-via _ _ _ (reads-▷ _ c.in_ok-read_head.ensures.field (reads-▷-first _ c.in_err-read_codewords.ensures)))
 
-pub returns-in-Refused : goal.returns-in-Refused
-returns-in-Refused c =
-    let k = c.read_head-head in
-    let e = answered (λ st. outcome_stop st (k.result.min, (k.result.max, k.result.prec))) c.in-Refused.is k.ensures in
-    rw c.no_lmcs.ensures (sym (lmcs-refused _ _ _ _ e))
+pub returns-then-not-chroma : goal.returns-then-not-chroma
+unfolding lmcs lmcs_syntax to_lmcs zero_lmcs
+returns-then-not-chroma c =
+    let k = c.in_ok-read_head.ensures in
+    rw (k.others.2 ∙ ap (λ (d : VvcLmcsData). d.lmcs_delta_abs_crs) c.requires, k.others.3 ∙ ap (λ (d : VvcLmcsData). d.lmcs_delta_sign_crs_flag) c.requires)
+    (reads-via _ _ _ (reads-▷ _ k.field (reads-▷ _ c.in_ok-read_codewords.ensures (reads-unsent _ _ no_signed c.if-not-chroma.true stays))))
+
+pub returns-in_err-abs : goal.returns-in_err-abs
+unfolding lmcs lmcs_syntax
+returns-in_err-abs c =
+    fills-exit _ _ _ _ c.from_residual-in_err-abs.ensures.1
+    (reads-via _ _ _ (reads-▷ _ c.in_ok-read_head.ensures.field (reads-▷ _ c.in_ok-read_codewords.ensures (reads-sent _ _ c.if-not-chroma.false c.in_err-abs.ensures))))
+
+pub overflow_cast-d : goal.overflow_cast-d
+overflow_cast-d c = record { fits = omega (arith, signed-u-lt 3 _ _ (sym c.in_ok-abs.ensures.field)) }
+
+pub returns : goal.returns
+unfolding lmcs lmcs_syntax to_lmcs
+returns c =
+    reads-via _ _ _ (reads-▷ _ c.in_ok-read_head.ensures.field (reads-▷ _ c.in_ok-read_codewords.ensures (reads-sent _ _ c.if-not-chroma.false c.in_ok-abs.ensures)))

@@ -1,62 +1,23 @@
--- `read_head`: three reads one after the other, then the judgement.
-use Prim.Native.Nat.{◌*◌, ◌≤◌}
-use mathlib.Core.Path.{◌≡◌, sym, ◌∙◌}
-use lib.ListN.{length}
-use native.Mathlib.Omega.{arith}
-use Rattle.bitstream.specs.Outcome.{value}
-use Rattle.aps.specs.Inner.{outcome_u}
-use Rattle.aps.specs.Codec.{ue}
-use Rattle.aps.proofs.Answers.{answered}
-use Rattle.aps.proofs.FieldLaws.{ue-law}
-use Rattle.aps.proofs.CodecLaws.{inside}
-use Rattle.aps.proofs.LmcsSteps.{min-refused, max-refused, prec-refused, range-refused, head_read}
+-- `read_head`: three codes one after another, then the judgement.
+use mathlib.Core.Path.{sym, ◌∙◌}
+use Rattle.aps.proofs.ReaderLaws.{fills-exit, reads-▷, reads-▷-first, reads-judged, reads-not-judged, reads-judged-first}
 use Rattle.aps.proofs.lmcs.read_head.Goals as goal
-use Rattle.aps.proofs.lmcs.read_head.Goals.{In-Value, In-Value-long_ue, In-Value-long_ue-2}
 
--- what each read that was taken gave, and that it ends inside the input
-first : (c : In-Value) → ue.read c.args.bytes.now c.args.p ≡ value c.in-Value.min c.in-Value.a.bit_pos
-first c =
-    answered outcome_u c.in-Value.is c.long_ue.ensures
+pub returns-in_err-min-clause-field : goal.returns-in_err-min-clause-field
+returns-in_err-min-clause-field c = fills-exit _ _ _ _ c.from_residual.ensures.1 (reads-judged-first _ (reads-▷-first _ c.in_err-min.ensures))
 
-min-ends : (c : In-Value) → c.in-Value.a.bit_pos ≤ length c.args.bytes.now * 8
-min-ends c =
-    inside ue-law _ _ _ _ (first c) c.requires.1
+pub returns-in_err-max-clause-field : goal.returns-in_err-max-clause-field
+returns-in_err-max-clause-field c =
+    fills-exit _ _ _ _ c.from_residual-in_err-max.ensures.1 (reads-judged-first _ (reads-▷ _ c.in_ok-min.ensures (reads-▷-first _ c.in_err-max.ensures)))
 
-second : (c : In-Value-long_ue) → ue.read c.args.bytes.now c.in-Value.a.bit_pos ≡ value c.in-Value-long_ue.max c.in-Value-long_ue.b.bit_pos
-second c =
-    answered outcome_u c.in-Value-long_ue.is c.long_ue-in-Value.ensures
+pub returns-in_err-prec-clause-field : goal.returns-in_err-prec-clause-field
+returns-in_err-prec-clause-field c =
+    fills-exit _ _ _ _ c.from_residual-in_err-prec.ensures.1 (reads-judged-first _ (reads-▷ _ c.in_ok-min.ensures (reads-▷ _ c.in_ok-max.ensures c.in_err-prec.ensures)))
 
-third : (c : In-Value-long_ue-2) → ue.read c.args.bytes.now c.in-Value-long_ue.b.bit_pos ≡ value c.in-Value-long_ue-2.prec c.in-Value-long_ue-2.c.bit_pos
-third c =
-    answered outcome_u c.in-Value-long_ue-2.is c.long_ue-in-Value-long_ue.ensures
+pub returns-then-not-in_range-clause-field : goal.returns-then-not-in_range-clause-field
+returns-then-not-in_range-clause-field c =
+    reads-not-judged _ (sym c.in_range.ensures ∙ c.if-not-in_range.true) (reads-▷ _ c.in_ok-min.ensures (reads-▷ _ c.in_ok-max.ensures c.in_ok-prec.ensures))
 
-pub long_ue-requires-in-Value : goal.long_ue-requires-in-Value
-long_ue-requires-in-Value c = (c.requires.0, omega (arith, c.requires.0, (min-ends c)))
-
-pub long_ue-requires-in-Value-long_ue : goal.long_ue-requires-in-Value-long_ue
-long_ue-requires-in-Value-long_ue c =
-    (c.requires.0, omega (arith, c.requires.0, inside ue-law _ _ _ _ (second c) (min-ends (goal.at.long_ue-requires-in-Value-long_ue c).In-Value)))
-
-pub returns-in-Refused : goal.returns-in-Refused
-returns-in-Refused c =
-    let e = answered outcome_u c.in-Refused.is c.long_ue.ensures in
-    rw c.no_head.ensures (sym (min-refused _ _ _ e))
-
-pub returns-in-Refused-long_ue : goal.returns-in-Refused-long_ue
-returns-in-Refused-long_ue c =
-    let e = answered outcome_u c.in-Refused-long_ue.is c.long_ue-in-Value.ensures in
-    rw c.no_head-in-Refused-long_ue.ensures (sym (max-refused _ _ _ _ _ (first (goal.at.returns-in-Refused-long_ue c).In-Value) e))
-
-pub returns-in-Refused-long_ue-2 : goal.returns-in-Refused-long_ue-2
-returns-in-Refused-long_ue-2 c =
-    let e = answered outcome_u c.in-Refused-long_ue-2.is c.long_ue-in-Value-long_ue.ensures in
-    rw c.no_head-in-Refused-long_ue-2.ensures (sym (prec-refused _ _ _ _ _ (first (goal.at.returns-in-Refused-long_ue-2 c).In-Value) _ _ (second (goal.at.returns-in-Refused-long_ue-2 c).In-Value-long_ue) e))
-
-pub returns-then-in_range : goal.returns-then-in_range
-returns-then-in_range c =
-    sym (head_read _ _ 0 _ _ (first (goal.at.returns-then-in_range c).In-Value) _ _ (second (goal.at.returns-then-in_range c).In-Value-long_ue) _ _ (third (goal.at.returns-then-in_range c).In-Value-long_ue-2) (sym c.in_range.ensures ∙ c.if-in_range.true))
-
-pub returns-else-in_range : goal.returns-else-in_range
-returns-else-in_range c =
-    rw c.no_head-else-in_range.ensures
-    (sym (range-refused _ _ 0 _ _ (first (goal.at.returns-else-in_range c).In-Value) _ _ (second (goal.at.returns-else-in_range c).In-Value-long_ue) _ _ (third (goal.at.returns-else-in_range c).In-Value-long_ue-2) (sym c.in_range.ensures ∙ c.if-in_range.false)))
+pub returns-clause-field : goal.returns-clause-field
+returns-clause-field c =
+    reads-judged _ (sym c.in_range.ensures ∙ c.if-not-in_range.false) (reads-▷ _ c.in_ok-min.ensures (reads-▷ _ c.in_ok-max.ensures c.in_ok-prec.ensures))

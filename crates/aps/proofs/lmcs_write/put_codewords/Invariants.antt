@@ -1,16 +1,25 @@
--- `put_codewords`: bins below i are written; those that are not coded take no bits.
-use Prim.Native.Nat.{◌-◌, ◌*◌, ◌≤◌}
-use mathlib.Core.Path.{◌≡◌}
-use lib.ListN.{length}
+-- `put_codewords`: the bins below i are written; those that are not coded take no bits.
+use mathlib.Core.Bool.{Bool}
+use mathlib.Core.List.{List}
+use Prim.Native.Nat.{ℕ, ◌+◌, ◌*◌, ◌≤◌}
+use Rattle.aps.specs.Codec.{Codec}
 use Rattle.aps.specs.Elements.{zipped}
-use Rattle.aps.specs.Inner.{Spans}
+use Rattle.aps.specs.declared.lmcs.VvcLmcsData.{VvcLmcsData}
 use Rattle.aps.proofs.LmcsSteps.{bin}
-use Rattle.aps.proofs.WriteSteps.{Writing}
+use Rattle.aps.proofs.WriterLaws.{Writing}
 use Rattle.aps.proofs.lmcs_write.put_codewords.Given as goal
+
+-- the bins as the head says
+abbrev pub bins : VvcLmcsData → ℕ → Codec (ℕ × Bool)
+bins d = bin d.lmcs_min_bin_idx d.lmcs_delta_max_bin_idx d.lmcs_delta_cw_prec_minus1
+
+-- the magnitudes with their signs
+abbrev pub deltas : VvcLmcsData → List (ℕ × Bool)
+deltas d = zipped d.lmcs_delta_abs_cw d.lmcs_delta_sign_cw_flag
 
 abbrev pub invariant-loop-i : goal.invariant-loop-i
 invariant-loop-i l =
-    (l.i ≤ 16) × (length l.out ≡ length l.initial.out) × Spans l.initial.at l.at (16 * l.i) × Writing (bin l.min l.max l.prec) 16 (zipped l.abs l.sign) l.initial.at l.initial.out l.i l.at l.out
-
-abbrev pub decreases-loop-i : goal.decreases-loop-i
-decreases-loop-i l = 16 - l.i
+    record {
+      within : l.writer.at ≤ l.initial.writer.at + 16 * l.i;
+      wrote : Writing (bins l.curve) 16 (deltas l.curve) l.initial.writer l.i l.writer;
+    }

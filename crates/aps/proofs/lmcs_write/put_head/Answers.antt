@@ -1,25 +1,58 @@
--- `put_head`: three values one after another.
-use borrow.Author.Rules.{rules}
+-- `put_head`: three values in range, one after another.
+use mathlib.Core.Path.{sym, ◌∙◌}
 use native.Mathlib.Omega.{arith}
 use lib.Count.{count_leading_zeros}
+use Rattle.std.proofs.lemmas.Result.{on_ok_weaker}
 use Rattle.bitstream.specs.Fields.{ue_zeros}
-use Rattle.aps.proofs.StopLaws.{stops-more}
-use Rattle.aps.proofs.LmcsWrites.{head-wrote}
+use Rattle.aps.specs.LmcsSyntax.{from_lmcs}
+use Rattle.aps.proofs.LmcsSteps.{in-range}
+use Rattle.aps.proofs.WriterLaws.{wrote-exit, wrote-not, wrote-judged, wrote-▷, wrote-▷-first}
+use Rattle.aps.proofs.LmcsWrites.{head-not, ue-wrote}
 use Rattle.aps.proofs.lmcs_write.put_head.Goals as goal
 
-pub put_ue_to-a-requires : goal.put_ue_to-a-requires
-put_ue_to-a-requires c = (c.requires.0, stops-more c.args.from 32000 32700 c.requires.1 (omega arith), omega arith)
+pub returns-then-not-in_range-clause-wrote : goal.returns-then-not-in_range-clause-wrote
+unfolding from_lmcs
+returns-then-not-in_range-clause-wrote c = wrote-not (head-not _ (sym c.in_range.ensures ∙ c.if-not-in_range.true))
 
-pub put_ue_to-b-requires : goal.put_ue_to-b-requires
-unfolding ue_zeros count_leading_zeros
-put_ue_to-b-requires c =
-    (search rules, stops-more c.put_ue_to-a.result 32009 32700 (c.put_ue_to-a.ensures.within 32000 c.requires.1) (omega arith), omega arith)
+pub returns-in_err-ue_to-clause-wrote : goal.returns-in_err-ue_to-clause-wrote
+unfolding from_lmcs
+returns-in_err-ue_to-clause-wrote c =
+    let t = sym c.in_range.ensures ∙ c.if-not-in_range.false in
+    wrote-exit c.from_residual.ensures.1 (wrote-judged _ t (wrote-▷-first _ (ue-wrote (omega (arith, (in-range _ _ _ t).0)) c.in_err-ue_to.ensures.wrote)))
 
-pub put_ue_to-requires : goal.put_ue_to-requires
+pub returns-in_err-ue_to-clause-within : goal.returns-in_err-ue_to-clause-within
 unfolding ue_zeros count_leading_zeros
-put_ue_to-requires c =
-    (search rules, stops-more c.put_ue_to-b.result 32018 32700 (c.put_ue_to-b.ensures.within 32009 (c.put_ue_to-a.ensures.within 32000 c.requires.1)) (omega arith), omega arith)
+returns-in_err-ue_to-clause-within c = omega arith
+
+pub ue_to-requires-2 : goal.ue_to-requires-2
+unfolding ue_zeros count_leading_zeros
+ue_to-requires-2 c = (omega arith, omega arith)
+
+pub returns-in_err-ue_to-2-clause-wrote : goal.returns-in_err-ue_to-2-clause-wrote
+unfolding from_lmcs
+returns-in_err-ue_to-2-clause-wrote c =
+    let t = sym c.in_range.ensures ∙ c.if-not-in_range.false in
+    let r = in-range _ _ _ t in
+    wrote-exit c.from_residual-in_err-ue_to-2.ensures.1
+    (wrote-judged _ t (wrote-▷ _ (ue-wrote (omega (arith, r.0)) c.in_ok-ue_to.ensures.wrote) (wrote-▷-first _ (ue-wrote r.1 c.in_err-ue_to-2.ensures.wrote))))
+
+pub returns-in_err-ue_to-2-clause-within : goal.returns-in_err-ue_to-2-clause-within
+unfolding ue_zeros count_leading_zeros
+returns-in_err-ue_to-2-clause-within c = omega arith
+
+pub ue_to-requires-3 : goal.ue_to-requires-3
+unfolding ue_zeros count_leading_zeros
+ue_to-requires-3 c = (omega arith, omega arith)
 
 pub returns : goal.returns
-unfolding ue_zeros count_leading_zeros
-returns c = head-wrote _ _ _ c.requires.2 c.put_ue_to-a.ensures c.put_ue_to-b.ensures c.put_ue_to.ensures
+unfolding from_lmcs ue_zeros count_leading_zeros
+returns c =
+    let t = sym c.in_range.ensures ∙ c.if-not-in_range.false in
+    let r = in-range _ _ _ t in
+    record {
+      wrote =
+          wrote-judged _ t
+          (wrote-▷ _ (ue-wrote (omega (arith, r.0)) c.in_ok-ue_to.ensures.wrote) (wrote-▷ _ (ue-wrote r.1 c.in_ok-ue_to-2.ensures.wrote) (ue-wrote r.2 c.ue_to-3.ensures.wrote)));
+      within = omega arith;
+      taken = on_ok_weaker c.ue_to-3.result (λ l. t) c.ue_to-3.ensures.taken;
+    }

@@ -1,10 +1,12 @@
 -- `read_dc`: a DC is read above id 13 only.
 use borrow.Author.Tests.{lt-ltb, le-ltb}
-use Rattle.aps.proofs.Steps.{when-read}
+use lib.IntN.{pos}
+use Rattle.aps.specs.ScalingSyntax.{just}
+use Rattle.aps.proofs.ReaderLaws.{reads-sent, reads-unsent, stays}
 use Rattle.aps.proofs.scaling_list_data.read_dc.Goals as goal
 
-pub returns-then-id-gt13 : goal.returns-then-id-gt13
-returns-then-id-gt13 c = rw (when-read, lt-ltb _ _ c.if-id-gt13.true) c.read_se8.ensures
+pub returns-then-id-le13 : goal.returns-then-id-le13
+returns-then-id-le13 c = reads-unsent _ _ (just (pos 0)) (le-ltb _ _ c.if-id-le13.true) stays
 
 pub returns : goal.returns
-returns c = rw (when-read, le-ltb _ _ c.if-id-gt13.false)
+returns c = reads-sent _ (just (pos 0)) (lt-ltb _ _ c.if-id-le13.false) c.se8.ensures

@@ -1,25 +1,47 @@
--- `write_scaling_list_data`: the loop has written the ids before `id`.
-use borrow.Author.Rules.{rules}
-use mathlib.Core.Path.{◌≡◌}
-use Prim.Native.Nat.{◌+◌, ◌*◌}
+-- `write_scaling_list_data`: one id more is written, or it is refused.
+use mathlib.Core.Path.{sym, ◌∙◌}
 use native.Mathlib.Omega.{arith}
-use lib.ListN.{length}
-use Rattle.aps.proofs.StopLaws.{stops-more}
-use Rattle.aps.proofs.ScalingWrites.{listed_start, listed_more, listed-done}
+use Rattle.aps.specs.ScalingSyntax.{id_at, scaling_syntax, look}
+use Rattle.aps.proofs.KeepLaws.{length-look}
+use Rattle.aps.proofs.WriterLaws.{wrote-exit, writing_more, writing-refused, writing-done}
+use Rattle.aps.proofs.ScalingWrites.{id-sent, id-unsent, look-cons}
 use Rattle.aps.proofs.scaling_list_write.write_scaling_list_data.Goals as goal
+use Rattle.aps.proofs.scaling_list_write.write_scaling_list_data.Goals.{then-scaling_id_coded+in_ok-put_coded, else-scaling_id_coded}
 
-pub loop-id-init : goal.loop-id-init
-loop-id-init c = (c.requires.0, listed_start _ _ _ _)
-
-pub put_id-at-requires : goal.put_id-at-requires
-put_id-at-requires c =
+pub returns-in_err-put_coded-clause-wrote : goal.returns-in_err-put_coded-clause-wrote
+unfolding scaling_syntax
+returns-in_err-put_coded-clause-wrote c =
+    let a = c.args in
     let o = c.loop-id in
-    (o.invariant.0, stops-more o.at (100 + 1116 * o.id) 31000 (o.invariant.1.near 100 c.requires.1) (omega arith), omega arith, search rules, search rules)
+    wrote-exit c.from_residual.ensures.1
+    (writing-refused (id_at a.chroma) 28 (look a.chroma a.lists.now) a.writer.now (omega arith) (look-cons a.chroma a.lists.now o.id (omega arith)) o.invariant.wrote
+    (id-sent a.chroma a.lists.now o.id (sym c.scaling_id_coded.ensures ∙ c.if-scaling_id_coded.true) c.in_err-put_coded.ensures.wrote))
 
 pub loop-id-preserved : goal.loop-id-preserved
 loop-id-preserved c =
-    let sized : length c.args.d.copy_mode_flag ≡ 28 = search rules in
-    (search rules, listed_more _ _ _ _ _ _ _ c.loop-id.invariant.1 _ _ c.loop-id-test.true sized c.put_id-at.ensures)
+    let a = c.args in
+    let o = c.loop-id in
+    elim c.if-scaling_id_coded.branch [
+      | then-scaling_id_coded+in_ok-put_coded w ↦
+          rw w.writer-is
+          (record {
+            within = omega arith;
+            wrote =
+                writing_more (id_at a.chroma) 28 (look a.chroma a.lists.now) a.writer.now (omega arith) (look-cons a.chroma a.lists.now o.id (omega arith)) o.invariant.wrote
+                (id-sent a.chroma a.lists.now o.id (sym c.scaling_id_coded.ensures ∙ w.if-scaling_id_coded.true) w.in_ok-put_coded.ensures.wrote);
+          })
+      | else-scaling_id_coded w ↦
+          rw w.writer-is
+          (record {
+            within = omega arith;
+            wrote =
+                writing_more (id_at a.chroma) 28 (look a.chroma a.lists.now) a.writer.now (omega arith) (look-cons a.chroma a.lists.now o.id (omega arith)) o.invariant.wrote
+                (id-unsent a.chroma a.lists.now o.id (sym c.scaling_id_coded.ensures ∙ w.if-scaling_id_coded.false));
+          })
+    ]
 
-pub returns : goal.returns
-returns c = listed-done _ _ _ _ _ _ _ c.loop-id.invariant.1 c.loop-id-test.false
+pub returns-clause-wrote : goal.returns-clause-wrote
+unfolding scaling_syntax
+returns-clause-wrote c =
+    let a = c.args in
+    writing-done (id_at a.chroma) 28 (look a.chroma a.lists.now) a.writer.now (omega arith) (length-look a.chroma a.lists.now) c.loop-id.invariant.wrote

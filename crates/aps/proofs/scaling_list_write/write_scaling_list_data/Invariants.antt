@@ -1,12 +1,12 @@
--- `write_scaling_list_data`: the loop has written the ids before `id`.
-use mathlib.Core.Path.{◌≡◌}
-use Prim.Native.Nat.{◌-◌}
-use lib.ListN.{length}
-use Rattle.aps.proofs.ScalingWrites.{Listed}
+-- `write_scaling_list_data`: the ids before this one are written.
+use Prim.Native.Nat.{◌+◌, ◌*◌, ◌≤◌}
+use Rattle.aps.specs.ScalingSyntax.{id_at, look}
+use Rattle.aps.proofs.WriterLaws.{Writing}
 use Rattle.aps.proofs.scaling_list_write.write_scaling_list_data.Given as goal
 
 abbrev pub invariant-loop-id : goal.invariant-loop-id
-invariant-loop-id l = (length l.out ≡ 4096) × Listed l.chroma l.d l.initial.at l.initial.out l.id l.at l.out
-
-abbrev pub decreases-loop-id : goal.decreases-loop-id
-decreases-loop-id l = 28 - l.id
+invariant-loop-id l =
+    record {
+      within : l.writer.at ≤ l.initial.writer.at + 1116 * l.id;
+      wrote : Writing (id_at l.chroma) 28 (look l.chroma l.lists) l.initial.writer l.id l.writer;
+    }

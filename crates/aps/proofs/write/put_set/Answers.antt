@@ -1,29 +1,38 @@
--- `put_set`: what is sent of a set is what is sent of its kind alone.
-use mathlib.Core.Path.{refl}
-use mathlib.Core.Bool.{false}
-use Rattle.aps.specs.ApsSyntax.{from_aps}
-use Rattle.aps.specs.Writing.{alf_set, lmcs_set, scaling_set}
-use Rattle.aps.specs.declared.aps.ApsKind.{ApsKind}
-use Rattle.aps.proofs.RbspWrites.{wrote-alike}
+-- `put_set`: kind, id and chroma flag, the payload, then the extension flag.
+use Rattle.aps.specs.ApsSyntax.{aps_syntax}
+use Rattle.aps.proofs.WriterLaws.{wrote-exit, wrote-▷, wrote-▷-first}
+use Rattle.aps.proofs.RbspWrites.{set-wrote}
 use Rattle.aps.proofs.write.put_set.Goals as goal
 
-pub returns-in-Alf : goal.returns-in-Alf
-unfolding from_aps alf_set
-returns-in-Alf c =
-    let set = c.args.set in
-    wrote-alike (alf_set set.aps_adaptation_parameter_set_id set.aps_chroma_present_flag false set.alf) set ApsKind.Alf c.in-Alf.is c.requires.1 refl
-    c.put_alf_set.ensures
+pub returns-in_err-u-clause-wrote : goal.returns-in_err-u-clause-wrote
+unfolding aps_syntax
+returns-in_err-u-clause-wrote g c a e = set-wrote e (wrote-exit c.from_residual.ensures.1 (wrote-▷-first _ (rw (c.from.ensures, c.NUMBER.ensures) at c.in_err-u.ensures.wrote)))
 
-pub returns-in-Lmcs : goal.returns-in-Lmcs
-unfolding from_aps lmcs_set
-returns-in-Lmcs c =
-    let set = c.args.set in
-    wrote-alike (lmcs_set set.aps_adaptation_parameter_set_id set.aps_chroma_present_flag false set.lmcs) set ApsKind.Lmcs c.in-Lmcs.is c.requires.1 refl
-    c.put_lmcs_set.ensures
+pub returns-in_err-u-2-clause-wrote : goal.returns-in_err-u-2-clause-wrote
+unfolding aps_syntax
+returns-in_err-u-2-clause-wrote g c a e =
+    set-wrote e
+    (wrote-exit c.from_residual-in_err-u-2.ensures.1
+    (wrote-▷ _ (rw (c.from.ensures, c.NUMBER.ensures) at c.in_ok-u.ensures.wrote) (wrote-▷-first _ (rw c.from-2.ensures at c.in_err-u-2.ensures.wrote))))
 
-pub returns-in-Scaling : goal.returns-in-Scaling
-unfolding from_aps scaling_set
-returns-in-Scaling c =
-    let set = c.args.set in
-    wrote-alike (scaling_set set.aps_adaptation_parameter_set_id set.aps_chroma_present_flag false set.scaling) set ApsKind.Scaling c.in-Scaling.is c.requires.1 refl
-    c.put_scaling_set.ensures
+pub returns-in_err-flag-clause-wrote : goal.returns-in_err-flag-clause-wrote
+unfolding aps_syntax
+returns-in_err-flag-clause-wrote g c a e =
+    set-wrote e
+    (wrote-exit c.from_residual-in_err-flag.ensures.1
+    (wrote-▷ _ (rw (c.from.ensures, c.NUMBER.ensures) at c.in_ok-u.ensures.wrote) (wrote-▷ _ (rw c.from-2.ensures at c.in_ok-u-2.ensures.wrote) (wrote-▷-first _ c.in_err-flag.ensures.wrote))))
+
+pub returns-in_err-write-clause-wrote : goal.returns-in_err-write-clause-wrote
+unfolding aps_syntax
+returns-in_err-write-clause-wrote g c a e =
+    set-wrote e
+    (wrote-exit c.from_residual-in_err-write.ensures.1
+    (wrote-▷ _ (rw (c.from.ensures, c.NUMBER.ensures) at c.in_ok-u.ensures.wrote)
+    (wrote-▷ _ (rw c.from-2.ensures at c.in_ok-u-2.ensures.wrote) (wrote-▷ _ c.in_ok-flag.ensures.wrote (wrote-▷-first _ c.in_err-write.ensures.wrote)))))
+
+pub returns-clause-wrote : goal.returns-clause-wrote
+unfolding aps_syntax
+returns-clause-wrote g c a e =
+    set-wrote e
+    (wrote-▷ _ (rw (c.from.ensures, c.NUMBER.ensures) at c.in_ok-u.ensures.wrote)
+    (wrote-▷ _ (rw c.from-2.ensures at c.in_ok-u-2.ensures.wrote) (wrote-▷ _ c.in_ok-flag.ensures.wrote (wrote-▷ _ c.in_ok-write.ensures.wrote c.flag-2.ensures.wrote))))

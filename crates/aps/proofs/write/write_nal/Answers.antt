@@ -1,18 +1,16 @@
 -- `write_nal`: type and length are judged, then the escaped bytes stand after the header's two, if there is room for both.
 use borrow.Author.Rules.{rules}
-use borrow.Rule.Slice.PartMut.{mid_of, put_mid}
+use borrow.Rule.Slice.PartMut.{put_mid}
 use mathlib.Core.Path.{◌≡◌, sym, ◌∙◌}
 use mathlib.Core.Bool.{true}
 use Prim.Native.Nat.{◌-◌, ◌<◌}
 use native.Mathlib.Omega.{arith}
 use lib.ListN.{length}
 use lib.Seq.{lt-length-set}
-use Rattle.bitstream.specs.Outcome.{value, refused, number}
-use Rattle.bitstream.specs.Escapes.{rbsp_to_ebsp}
 use Rattle.aps.specs.Unit.{is_aps}
-use Rattle.aps.proofs.UnitWrites.{answered-as, aps-type, unit-type, unit-long, unit-due, unit-short, unit-within, unit-put, unit-refused}
+use Rattle.aps.proofs.UnitWrites.{answered-as, answer-exit, aps-type, unit-type, unit-long, unit-due, unit-short, unit-within, unit-put, unit-refused}
 use Rattle.aps.proofs.write.write_nal.Goals as goal
-use Rattle.aps.proofs.write.write_nal.Goals.{Else-not-is_aps, In-Ok}
+use Rattle.aps.proofs.write.write_nal.Goals.{Else-not-is_aps, In_ok-n}
 
 -- what was judged: the type is one of a set's
 judged : (c : Else-not-is_aps) → is_aps c.args.unit_type ≡ true
@@ -20,7 +18,7 @@ judged c =
     sym c.is_aps.ensures ∙ c.if-not-is_aps.false
 
 -- the type is below 32
-below : (c : In-Ok) → c.args.unit_type < 32
+below : (c : In_ok-n) → c.args.unit_type < 32
 below c =
     let judged : is_aps c.args.unit_type ≡ true = sym c.is_aps.ensures ∙ c.if-not-is_aps.false in
     aps-type _ judged
@@ -55,22 +53,18 @@ bounds-out-1 c =
 
 pub overflow_add-result : goal.overflow_add-result
 overflow_add-result c =
-    let e : value c.rbsp_to_ebsp.new.out c.in-Ok.n ≡ rbsp_to_ebsp c.args.rbsp.now (mid_of 2 (length c.args.out.now - 2) c.args.out.now)
-    = rw c.in-Ok.is at c.rbsp_to_ebsp.ensures.answer in
-    omega (arith, unit-within c.args.out.now c.args.rbsp.now c.args.unit_type (omega arith) (omega arith) _ _ e, c.well_formed)
-
-pub returns-in-Ok : goal.returns-in-Ok
-returns-in-Ok c =
     let a = c.args in
-    let e : value c.rbsp_to_ebsp.new.out c.in-Ok.n ≡ rbsp_to_ebsp a.rbsp.now (mid_of 2 (length a.out.now - 2) a.out.now)
-    = rw c.in-Ok.is at c.rbsp_to_ebsp.ensures.answer in
-    let r = answered-as a.out.now (unit-due a.out.now a.rbsp.now a.unit_type (judged (goal.at.returns-in-Ok c).Else-not-is_aps) (omega arith))
-    (unit-put a.out.now a.rbsp.now a.unit_type (omega arith) (omega arith) _ _ e) in record { answer = r.0; bytes = r.1 }
+    omega (arith, unit-within a.out.now a.rbsp.now a.unit_type (omega arith) (omega arith) _ _ c.in_ok-n.ensures.answer, c.well_formed)
 
-pub returns-in-Err : goal.returns-in-Err
-returns-in-Err c =
+pub returns : goal.returns
+returns c =
     let a = c.args in
-    let e : refused (number c.in-Err.short) ≡ rbsp_to_ebsp a.rbsp.now (mid_of 2 (length a.out.now - 2) a.out.now)
-    = rw c.in-Err.is at c.rbsp_to_ebsp.ensures.answer in
-    let r = answered-as a.out.now (unit-due a.out.now a.rbsp.now a.unit_type (judged (goal.at.returns-in-Err c).Else-not-is_aps) (omega arith))
-    (unit-refused a.out.now a.rbsp.now a.unit_type (omega arith) (omega arith) _ _ e c.rbsp_to_ebsp.ensures.bytes) in record { answer = r.0; bytes = r.1 }
+    let r = answered-as a.out.now (unit-due a.out.now a.rbsp.now a.unit_type (judged (goal.at.returns c).Else-not-is_aps) (omega arith))
+    (unit-put a.out.now a.rbsp.now a.unit_type (omega arith) (omega arith) _ _ c.in_ok-n.ensures.answer) in record { answer = r.0; bytes = r.1 }
+
+pub returns-in_err-n : goal.returns-in_err-n
+returns-in_err-n c =
+    let a = c.args in
+    let r = answer-exit c.args.out.now _ _ c.from_residual.ensures.1
+    (answered-as a.out.now (unit-due a.out.now a.rbsp.now a.unit_type (judged (goal.at.returns-in_err-n c).Else-not-is_aps) (omega arith))
+    (unit-refused a.out.now a.rbsp.now a.unit_type (omega arith) (omega arith) _ _ c.in_err-n.ensures.answer c.rbsp_to_ebsp.ensures.bytes)) in record { answer = r.0; bytes = r.1 }

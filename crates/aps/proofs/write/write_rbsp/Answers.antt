@@ -1,16 +1,15 @@
--- `write_rbsp`: the set from bit 0 on, then its end.
-use borrow.Author.Rules.{rules}
-use mathlib.Core.Path.{sym, ◌∙◌}
-use native.Mathlib.Omega.{arith}
-use Rattle.aps.proofs.RbspWrites.{due-extended, due-plain}
+-- `write_rbsp`: what is sent of a set is what is sent of its kind alone.
+use Rattle.aps.specs.ApsSyntax.{from_aps}
 use Rattle.aps.proofs.write.write_rbsp.Goals as goal
 
-pub returns-then-set : goal.returns-then-set
-returns-then-set c = due-extended c.args.set c.if-set.true
+pub returns-in-Alf-clause-due : goal.returns-in-Alf-clause-due
+unfolding from_aps
+returns-in-Alf-clause-due c = c.put_rbsp.ensures.due c.args.set.now (rw c.in-Alf.is)
 
-pub put_end-requires : goal.put_end-requires
-put_end-requires c = (search rules, c.put_set-at.ensures.within 0 (omega arith))
+pub returns-in-Lmcs-clause-due : goal.returns-in-Lmcs-clause-due
+unfolding from_aps
+returns-in-Lmcs-clause-due c = c.put_rbsp-in-Lmcs.ensures.due c.args.set.now (rw c.in-Lmcs.is)
 
-pub returns : goal.returns
-returns c =
-    c.put_end.ensures c.args.set c.args.buffer.now c.put_set-at.ensures ∙ sym (due-plain c.args.set c.if-set.false)
+pub returns-in-Scaling-clause-due : goal.returns-in-Scaling-clause-due
+unfolding from_aps
+returns-in-Scaling-clause-due c = c.put_rbsp-in-Scaling.ensures.due c.args.set.now (rw c.in-Scaling.is)

@@ -1,9 +1,8 @@
 -- `ue`: inside the limits the call reads what the syntax reads where no bit is lacking, and nothing is known of the bits after it.
-use Rattle.std.proofs.Common.{rules, ◌≡◌, Err}
+use Rattle.std.proofs.Common.{◌≡◌}
 use mathlib.Core.Path.{refl, sym, ◌∙◌}
-use mathlib.Core.Bool.{false}
 use native.Mathlib.Omega.{arith}
-use Rattle.bitstream.specs.Outcome.{value, refused, number}
+use Rattle.bitstream.specs.Outcome.{value}
 use Rattle.aps.specs.Codec.{ue}
 use Rattle.aps.proofs.CodecLaws.{inside}
 use Rattle.aps.proofs.FieldLaws.{ue-law}
