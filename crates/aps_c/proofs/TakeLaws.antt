@@ -14,7 +14,7 @@ use mir.Syntax.{w32, w64}
 use mir.Val.{to_z, of_z, SFits}
 use mir.Facts.{to_z-of_z}
 use Rattle.std.specs.Prelude.{Result, Ok, Err}
-use Rattle.std.specs.Array.{IsFromFnResultFrom}
+use Rattle.std.specs.Array.{IsFromFnResult, IsFromFnResultFrom}
 use Rattle.std.specs.Fn.{Called}
 use Rattle.std.specs.Int.{FitsUnsignedBits}
 use Rattle.std.specs.Result.{OkIff, result_unwrap_or}
@@ -92,15 +92,21 @@ truth-is (negsuc n) f = ne_eqb (2 ^ 64 - suc n) 1 λ e. omega (arith, e, f.sfits
 
 -- ---- an array that `from_fn` makes, where each call gives what h does and leaves f as it was
 
-module _ {F B : Type 0} (g : Mut F (ℕ × Unit {0}) B) (f : F) (h : ℕ → B) (is : (i : ℕ) (y : B) (q : F) → Called g f (i, tt) y q → (q ≡ f) × (y ≡ h i)) where
-  pub each-made : (ys : List B) (p : F) (i n : ℕ) → p ≡ f → IsFromFnResultFrom g p ys i n → (k : ℕ) (d : B) → k < n → get_or ys (i + k) d ≡ h (i + k)
+module _ {F B : Type 0} {g : Mut F (ℕ × Unit {0}) B} {f : F} (h : ℕ → B) (is : (i : ℕ) (y : B) (q : F) → Called g f (i, tt) y q → (q ≡ f) × (y ≡ h i)) where
+  each-made : (ys : List B) (p : F) (i n : ℕ) → p ≡ f → IsFromFnResultFrom g p ys i n → (k : ℕ) (d : B) → k < n → get_or ys (i + k) d ≡ h (i + k)
   each-made ys p i zero e r k d b = absurd (omega (arith, b))
   each-made ys p i (suc n) e (q, y, at, call, rest) zero d b =
       let z : i + 0 ≡ i = omega arith in
       rw z (at.1 d ∙ (is i y q (rw e at call)).1)
   each-made ys p i (suc n) e (q, y, at, call, rest) (suc k) d b =
       let z : i + suc k ≡ i + 1 + k = omega arith in
-      rw z (each-made ys q (i + 1) n ((is i y q (rw e at call)).0) rest k d (omega (arith, b)))
+      rw z (each-made ys q (i + 1) n (is i y q (rw e at call)).0 rest k d (omega (arith, b)))
+
+pub from_fn-made : {F B : Type 0} {g : Mut F (ℕ × Unit {0}) B} {f : F} {ys : List B} {n : ℕ} → IsFromFnResult g f ys n → (h : ℕ → B)
+    → ((i : ℕ) (y : B) (q : F) → Called g f (i, tt) y q → (q ≡ f) × (y ≡ h i)) → (k : ℕ) (d : B) → k < n → get_or ys k d ≡ h k
+from_fn-made {f = f} {ys = ys} {n = n} m h is k d b =
+    let z : 0 + k ≡ k = omega arith in
+    rw z at (each-made h is ys f 0 n refl m.each k d b)
 
 -- a number that is no other kind's
 pub kind-rest : (n : ℕ) → (n ≡ 1 → ⊥) → (n ≡ 2 → ⊥) → ApsKind.Alf ≡ kind_of n
