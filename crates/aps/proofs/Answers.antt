@@ -1,21 +1,19 @@
 -- What an answer that was taken apart says of the definition it equals.
 use mathlib.Core.Path.{◌≡◌, refl, sym, ap, ◌∙◌}
-use mathlib.Core.Bool.{Bool}
 use mathlib.Core.List.{List}
 use Prim.Native.Nat.{ℕ}
-use Rattle.bitstream.specs.Outcome.{Outcome, value, refused, number}
+use Rattle.bitstream.specs.Outcome.{Outcome, refused, number}
 use Rattle.bitstream.specs.declared.Refusal.{Refusal}
 use Rattle.aps.specs.declared.alf.VvcAlfData.{VvcAlfData}
 use Rattle.aps.specs.declared.lmcs.VvcLmcsData.{VvcLmcsData}
 use Rattle.aps.specs.declared.scaling_list.VvcScalingListData.{VvcScalingListData}
-use Rattle.aps.specs.declared.aps.ApsKind.{ApsKind}
 use Rattle.aps.specs.declared.aps.ApsHead.{ApsHead}
 use Rattle.aps.specs.declared.aps.HeadReading.{HeadReading}
 use Rattle.aps.specs.declared.aps.VvcAps.{VvcAps}
 use Rattle.aps.specs.declared.aps.ApsReading.{ApsReading}
 use Rattle.aps.specs.declared.aps.ApsOutcome.{ApsOutcome}
 use Rattle.aps.specs.declared.aps.ApsOutcome.TheVariants as Aps
-use Rattle.aps.specs.Inner.{set_of, with_extension, assembled, Assembles}
+use Rattle.aps.specs.Inner.{assembled, Assembles}
 use Rattle.aps.specs.ApsSyntax.{empty_set, zero_alf, zero_lmcs, zero_scaling}
 use Rattle.aps.specs.Rbsp.{read_rbsp}
 use Rattle.aps.specs.Reading.{outcome_read, outcome_aps, set_given, head_of}
@@ -35,14 +33,6 @@ pub refused-parts : {end : ApsOutcome} {h : ApsHead} {d : VvcAlfData} {l : VvcLm
     → (a : VvcAps) → a ≡ assembled h d l c → (outcome_read end a ≡ o) × (a ≡ set_given o)
 unfolding empty_set
 refused-parts why (e, h, d, l, c) f a g = rw (g, e, h, d, l, c) (sym f, ap set_given (sym f))
-
--- a set that was read to its end
-pub ended-parts : {kind : ApsKind} {id : ℕ} {chroma x : Bool} {d : VvcAlfData} {l : VvcLmcsData} {c : VvcScalingListData} {q : ℕ} {o : Outcome VvcAps}
-    → value (with_extension (set_of kind id chroma d l c) x) q ≡ o → (h : ApsHead)
-    → h ≡ record { kind = kind; aps_adaptation_parameter_set_id = id; aps_chroma_present_flag = chroma; aps_extension_flag = x }
-    → (a : VvcAps) → a ≡ assembled h d l c → (outcome_read (Aps.Read q) a ≡ o) × (a ≡ set_given o)
-unfolding with_extension
-ended-parts e h f a g = rw (g, f) (e, ap set_given e)
 
 -- what an answer says of each part
 module _ (o : ApsOutcome) (h : ApsHead) (d : VvcAlfData) (l : VvcLmcsData) (c : VvcScalingListData) (s : List ℕ) (e : Assembles o h d l c s) where

@@ -8,16 +8,15 @@ use native.Mathlib.Omega.{arith}
 use borrow.Author.Tests.{ltb-true, lt-ltb}
 use lib.Dec.{ltb, eqb, leb}
 use lib.ListN.{length}
-use Rattle.bitstream.specs.Outcome.{Outcome, value, refused, map_outcome, ◌then◌}
+use Rattle.bitstream.specs.Outcome.{Outcome, value, refused, ◌then◌}
 use Rattle.bitstream.specs.Bits.{field_at}
-use Rattle.bitstream.specs.Fields.{read_u, lacks, read_ue, ue_asked, se_value}
-use Rattle.bitstream.specs.Reading.{lacking_for, ue_at, ue_lacking, se_at, se_lacking}
+use Rattle.bitstream.specs.Fields.{read_u, lacks, read_ue, ue_asked}
+use Rattle.bitstream.specs.Reading.{lacking_for, ue_at, ue_lacking}
 use Rattle.bitstream.proofs.CodeLaws.{value-refused}
 use Rattle.bitstream.proofs.FieldLaws.{field_lt}
-use Rattle.bitstream.proofs.CallLaws.{ue-in, se-lacks}
-use Rattle.bitstream.proofs.CallLaws as Call
+use Rattle.bitstream.proofs.CallLaws.{ue-in}
 use Rattle.aps.specs.Codec.{Codec, whole, u, ue, ◌▷◌, via, judged, when, each_from}
-use Rattle.aps.specs.Elements.{flag, ue_to, se, no_flag, signed}
+use Rattle.aps.specs.Elements.{flag, ue_to, no_flag, signed}
 use Rattle.aps.proofs.FieldLaws.{lacks-none, lacks-inside}
 use Rattle.aps.proofs.CodecLaws.{and_left, and_right}
 use Rattle.aps.proofs.Gives.{Gives, given}
@@ -35,10 +34,6 @@ module _ (s : List ℕ) (p n : ℕ) where
   lacks-past : 0 < n → length s * 8 < p + n → lacks s p n ≡ true
   unfolding lacks
   lacks-past h l = rw (lt-ltb _ _ h, lt-ltb _ _ l)
-
--- no bits are never lacking
-pub none-lacking : (s : List ℕ) (p : ℕ) → lacks s p 0 ≡ true → ⊥
-none-lacking s p e = let (a, b) = lacks-true s p 0 e in omega arith
 
 -- a part of bits that are there
 pub lacks-part : (s : List ℕ) (p n q m : ℕ) → lacks s p n ≡ false → p ≤ q → q + m ≤ p + n → lacks s q m ≡ false
@@ -61,9 +56,6 @@ module _ (n : ℕ) (s : List ℕ) (p : ℕ) where
   pub u-here : lacks s p n ≡ false → (u n).read s p ≡ value (field_at s p n) (p + n)
   u-here e = rw (u-read, e)
 
-  pub u-lacking : lacks s p n ≡ true → (u n).read s p ≡ refused 1
-  u-lacking e = rw (u-read, e)
-
 module _ (s : List ℕ) (p : ℕ) where
   pub flag-read : flag.read s p ≡ cond (lacks s p 1) (refused 1) (value (not (eqb (field_at s p 1) 0)) (p + 1))
   unfolding flag via
@@ -75,9 +67,6 @@ module _ (s : List ℕ) (p : ℕ) where
 
   pub flag-here : lacks s p 1 ≡ false → flag.read s p ≡ value (not (eqb (field_at s p 1) 0)) (p + 1)
   flag-here e = rw (flag-read, e)
-
-  pub flag-lacking : lacks s p 1 ≡ true → flag.read s p ≡ refused 1
-  flag-lacking e = rw (flag-read, e)
 
 -- a field that is given has its bits
 pub u-there : (n : ℕ) (s : List ℕ) (p : ℕ) {v q : ℕ} → value v q ≡ (u n).read s p → (lacks s p n ≡ false) × (v ≡ field_at s p n) × (q ≡ p + n)
@@ -102,17 +91,6 @@ flag-there s p {b} {q} e = go (lacks s p 1) refl (e ∙ flag-read s p)
     go true f g = absurd (value-refused g)
     go false f g = (f, cc, cc)
 
--- fields without a rule between them: bits are lacking for one of them
-module _ {B : Type 0} (s : List ℕ) (p n : ℕ) where
-  pub run-lacking : {A : Type 0} (c : Codec A) (k : A → Codec B) (w : ℕ) (a : A) → c.read s p ≡ cond (lacks s p w) (refused 1) (value a (p + w))
-      → ((a : A) → lacks s (p + w) n ≡ true → (k a).read s (p + w) ≡ refused 1) → lacks s p (w + n) ≡ true → (c ▷ k).read s p ≡ refused 1
-  unfolding ◌▷◌
-  run-lacking {A} c k w a e f l = rw e (go (lacks s p w) refl)
-    where
-      go : (b : Bool) → lacks s p w ≡ b → ◌then◌ {B = A × B} (cond b (refused 1) (value a (p + w))) (λ a q. ◌then◌ ((k a).read s q) (λ b r. value (a, b) r)) ≡ refused 1
-      go true g = refl
-      go false g = rw (f a (lacks_rest s p w n g l))
-
 -- the first n entries of an array are of w bits each, and bits are lacking for one of them
 pub each-lacking : (k : ℕ → Codec ℕ) (w i n m : ℕ) (s : List ℕ) (p : ℕ) → n ≤ m → ((j q : ℕ) → i ≤ j → j < i + n → (k j).read s q ≡ (u w).read s q)
     → lacks s p (w * n) ≡ true → (each_from i m k).read s p ≡ refused 1
@@ -129,7 +107,7 @@ each-lacking k w i (suc n) (suc m) s p h f e =
     go true g h = refl
     go false g h = rw (h g)
 
--- ---- ue(v) and se(v), as the calls answer them
+-- ---- ue(v), as the calls answer it
 
 whole-lacking : (o : Outcome ℕ) (b : Bool) → lacking_for o b ≡ true → whole b o ≡ refused 1
 unfolding whole
@@ -141,14 +119,6 @@ unfolding whole
 whole_here (value v q) b e = rw e
 whole_here (refused n) b e = refl
 
-pub se-of-ue : (s : List ℕ) (p : ℕ) {o : Outcome ℕ} → ue.read s p ≡ o → se.read s p ≡ map_outcome se_value o
-unfolding se via
-se-of-ue s p {o} e = rw e (go o)
-  where
-    go : (o : Outcome ℕ) → ◌then◌ o (λ v q. value (se_value v) q) ≡ map_outcome se_value o
-    go (value v q) = refl
-    go (refused n) = refl
-
 module _ (s : List ℕ) (p : ℕ) (h : length s ≤ 65536) (l : p ≤ 1048576) where
   pub ue-lacking : ue_lacking s p ≡ true → ue.read s p ≡ refused 1
   unfolding ue ue_lacking
@@ -157,12 +127,6 @@ module _ (s : List ℕ) (p : ℕ) (h : length s ≤ 65536) (l : p ≤ 1048576) w
   pub ue-here : ue_lacking s p ≡ false → ue.read s p ≡ ue_at s p
   unfolding ue ue_lacking
   ue-here e = rw (ue-in s p h l) (whole_here (read_ue s p) (lacks s p (ue_asked s p)) (rw (ue-in s p h l) at e))
-
-  pub se-lacking : se_lacking s p ≡ true → se.read s p ≡ refused 1
-  se-lacking e = se-of-ue s p (ue-lacking (sym (se-lacks s p) ∙ e))
-
-  pub se-here : se_lacking s p ≡ false → se.read s p ≡ se_at s p
-  se-here e = se-of-ue s p (ue-here (sym (se-lacks s p) ∙ e)) ∙ sym (Call.se-of-ue s p)
 
 pub ue_to-read : (most : ℕ) (s : List ℕ) (p : ℕ) → (ue_to most).read s p ≡ ◌then◌ (ue.read s p) (λ v q. cond (leb v most) (value v q) (refused 2))
 unfolding ue_to judged

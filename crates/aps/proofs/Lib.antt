@@ -23,7 +23,6 @@ pub mod TableSteps
 pub mod Steps
 pub mod ReaderLaws
 pub mod SeRange
-pub mod StopLaws
 pub mod CoefficientSteps
 pub mod AlfSteps
 pub mod ClipSteps

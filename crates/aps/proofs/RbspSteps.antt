@@ -30,10 +30,6 @@ use Rattle.aps.specs.declared.aps.ApsKind.{ApsKind}
 use Rattle.aps.specs.declared.aps.VvcAps.{VvcAps}
 use Rattle.aps.specs.declared.reader.Reader.{Reader}
 use Rattle.aps.specs.Reads.{Reads}
-use Rattle.aps.specs.declared.aps.ApsOutcome.{ApsOutcome}
-use Rattle.aps.specs.declared.aps.ApsOutcome.TheVariants as Aps
-use Rattle.aps.specs.Reading.{outcome_read, set_given}
-use Rattle.aps.proofs.Answers.{answered}
 use Rattle.aps.proofs.FieldSteps.{lacks-part, u-here, u-there, flag-here, flag-there}
 use Rattle.aps.proofs.FieldLaws.{lacks-none, lacks-inside}
 
@@ -164,13 +160,6 @@ ended-finished s a q = first (flag.read s q)
         ≡ (o then λ x r. cond x (value (with_extension a x) r) (read_trailing s r then λ e t. value (with_extension a x) t))
     first (value x r) = last x r (read_trailing s r)
     first (refused n) = refl
-
-module _ (a : VvcAps) (x : Bool) (end : ApsOutcome) {o o' : Outcome VvcAps} (f : outcome_read end (with_extension a x) ≡ o) (g : o' ≡ o) where
-  pub set_ended : (q : ℕ) → end ≡ Aps.Read q → (value (with_extension a x) q ≡ o') × (with_extension a x ≡ set_given o')
-  set_ended q e = let k = sym (answered (λ r. outcome_read r (with_extension a x)) e (f ∙ sym g)) in (k, ap set_given k)
-
-  pub set-refused : (why : Refusal) → end ≡ Aps.Refused why → o' ≡ refused (number why)
-  set-refused why e = answered (λ r. outcome_read r (with_extension a x)) e (f ∙ sym g)
 
 -- a set whose payload was read: what closes it, or why it is refused
 module _ (s : List ℕ) (set : VvcAps) (q : ℕ) (e : read_rbsp s ≡ finished s set q) where

@@ -17,7 +17,7 @@ use Rattle.bitstream.specs.Fields.{read_trailing, trailing_value, trailing_width
 use Rattle.bitstream.specs.Windows.{IsWindow}
 use Rattle.bitstream.specs.declared.Refusal.{Refusal}
 use Rattle.bitstream.proofs.CodeLaws.{value-refused}
-use Rattle.aps.specs.Codec.{Codec, u, ue, ◌▷◌, via, judged, Inferred, when, each, provided}
+use Rattle.aps.specs.Codec.{Codec, u, ue, ◌▷◌, via, judged, Inferred, when, each}
 use Rattle.aps.specs.Elements.{apart, firsts, seconds, zipped, ue_to, signed}
 use Rattle.aps.proofs.FieldSteps.{signed-u-lt}
 use Rattle.aps.proofs.PairLaws.{zipped-there}
@@ -67,10 +67,6 @@ module _ {A : Type 0} {c : Codec A} {w0 w1 : Reader} where
     unfolding when
     reads-sent d e r = record { field = rw e r.field; bytes = r.bytes }
 
-    pub reads-provided : b ≡ true → Reads c o w0 w1 → Reads (provided b c) o w0 w1
-    unfolding provided
-    reads-provided e r = record { field = rw e r.field; bytes = r.bytes }
-
   -- a value that is taken, one that is not, and a refusal
   module _ (test : A → Bool) where
     pub reads-judged : {a : A} {q : ℕ} → test a ≡ true → Reads c (value a q) w0 w1 → Reads (judged test c) (value a q) w0 w1
@@ -90,11 +86,6 @@ module _ {A : Type 0} (b : Bool) (c : Codec A) {w0 w1 : Reader} where
   pub reads-unsent : (d : Inferred A) → b ≡ false → Stands w0 w1 → Reads (when b d c) (value d.default w1.at) w0 w1
   unfolding when
   reads-unsent d e h = record { field = rw (e, h.place); bytes = h.bytes }
-
-  -- the test does not hold
-  pub reads-not-provided : b ≡ false → w1.bytes.now ≡ w0.bytes.now → Reads (provided b c) (refused 2) w0 w1
-  unfolding provided
-  reads-not-provided e h = record { field = rw e; bytes = h }
 
 module _ {A B : Type 0} {c : Codec A} {w0 w1 : Reader} where
   -- in another shape

@@ -18,12 +18,6 @@ module _ {s : List ℕ} {p left w : ℕ} (h : IsWindow s p left w) {v k : ℕ} (
   pub table-found : Found w v k
   table-found = code-found w e
 
-  pub table-value : v < 511
-  table-value =
-      let f = table-found in
-      let b = code-small w h.fits f.few in
-      omega (arith, f.is, b.0, b.1)
-
   -- one that ends inside the input
   pub table-ue : 17 ≤ left → p + k ≤ length s * 8 → ue.read s p ≡ value v (p + k)
   table-ue l i = found-ue h e (omega (arith, table-bits)) i

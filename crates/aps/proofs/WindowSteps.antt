@@ -40,19 +40,10 @@ module _ {s : List ℕ} {p left w : ℕ} (h : IsWindow s p left w) where
 
 -- a field that passes the input's end, and one that does not
 module _ {A : Type 0} (s : List ℕ) (q : ℕ) (a : A) {o : Outcome A} (e : ends_at s q a ≡ o) where
-  pub ends-past : length s * 8 < q → o ≡ refused 1
-  ends-past l = sym e ∙ rw (lt-ltb (length s * 8) q l)
-
   pub ends-inside : q ≤ length s * 8 → o ≡ value a q
   ends-inside l = sym e ∙ rw (le-ltb (length s * 8) q l)
 
 -- ---- a magnitude and its sign
-
--- a bit, or 0 in its place, fits a word
-pub times-bit : (b m : ℕ) → b < 2 → m ≤ 1 → b * m < 2 ^ 64
-times-bit b zero h l = rw (mul-zero b) (omega arith)
-times-bit b (suc zero) h l = rw (mul-one b) (omega arith)
-times-bit b (suc (suc m)) h l = absurd (omega arith)
 
 -- a bit as a flag
 bit-flag : (b : ℕ) → b < 2 → eqb b 1 ≡ not (eqb b 0)

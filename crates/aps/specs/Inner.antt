@@ -1,16 +1,14 @@
 -- For the proofs' sake: what the inner functions promise each other on the way. No public contract says anything of this file.
-use Rattle.std.specs.Prelude.{◌≡◌, Bool, true, false, cond, not, List, [], ◌∷◌, ℕ, ◌+◌, ◌*◌, ◌/◌, ◌%◌, ◌^◌, ◌≤◌, ◌<◌, Result, Ok, Err, eqb, ltb, length, take}
+use Rattle.std.specs.Prelude.{◌≡◌, Bool, false, cond, not, List, [], ◌∷◌, ℕ, ◌*◌, ◌/◌, ◌%◌, ◌^◌, ◌≤◌, ◌<◌, Result, Ok, Err, eqb, ltb, length, take}
 use Rattle.bitstream.specs.Outcome.{Outcome, value, refused, number, ◌then◌}
-use Rattle.bitstream.specs.Bits.{field_at, put_bits}
+use Rattle.bitstream.specs.Bits.{field_at}
 use Rattle.bitstream.specs.Fields.{lacks, read_trailing}
 use Rattle.bitstream.specs.declared.Refusal.{Refusal}
-use Rattle.bitstream.specs.declared.Refusal.TheVariants.{InvalidData, Unsupported}
-use Rattle.aps.specs.Codec.{Codec}
+use Rattle.bitstream.specs.declared.Refusal.TheVariants.{Unsupported}
 use Rattle.aps.specs.Elements.{flag}
 use Rattle.aps.specs.ApsSyntax.{number_of, zero_alf, zero_lmcs, zero_scaling}
 use Rattle.aps.specs.Rbsp.{closed, read_rbsp, parse_aps_rbsp}
 use Rattle.aps.specs.Reading.{outcome_read, set_given, head_of}
-use Rattle.aps.specs.declared.fields.Stop.{Stop}
 use Rattle.aps.specs.declared.alf.VvcAlfLuma.{VvcAlfLuma}
 use Rattle.aps.specs.declared.alf.VvcAlfChroma.{VvcAlfChroma}
 use Rattle.aps.specs.declared.alf.VvcAlfCcFilters.{VvcAlfCcFilters}
@@ -28,23 +26,6 @@ use Rattle.aps.specs.declared.lmcs_set.LmcsReading.{LmcsReading}
 use Rattle.aps.specs.declared.scaling_set.ScalingReading.{ScalingReading}
 use Rattle.aps.specs.declared.aps.VvcAps.{VvcAps}
 use Rattle.aps.specs.declared.unit.Admission.{Admission}
-
--- ---- a run of fields goes on where the one before it ended, and a refusal stays
-
--- the value read up to a stop
-abbrev pub outcome_stop : {A : Type 0} → Stop → A → Outcome A
-outcome_stop (Stop.End q) a = value a q
-outcome_stop (Stop.Refused e) a = refused (number e)
-
--- what is read from where a run ended
-abbrev pub after : {A : Type 0} → Stop → (ℕ → Outcome A) → Outcome A
-after (Stop.End p) f = f p
-after (Stop.Refused e) f = refused (number e)
-
--- a run ended at bit m or before
-abbrev pub StopsBy : Stop → ℕ → Type 0
-StopsBy (Stop.End p) m = p ≤ m
-StopsBy (Stop.Refused e) m = Unit {0}
 
 -- ---- reading
 

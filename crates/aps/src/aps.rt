@@ -174,6 +174,7 @@ fn kind_of(number: u32) -> Result<ApsKind, Refusal>
 }
 
 // What stands before the payload, with the extension flag still to be read, and the reader of what follows.
+#[inline(always)]
 pub(crate) fn open_rbsp(bytes: &[u8]) -> Result<(Reader<'_>, ApsHead), Refusal>
     ensures { Opens bytes.now result }
 {
@@ -189,7 +190,7 @@ pub(crate) fn open_rbsp(bytes: &[u8]) -> Result<(Reader<'_>, ApsHead), Refusal>
         kind,
         aps_adaptation_parameter_set_id: id as u8,
         aps_chroma_present_flag: chroma,
-        aps_extension_flag: false,
+        ..empty_head()
     };
     Ok((reader, head))
 }

@@ -10,7 +10,6 @@ pub mod alf_set;
 mod alf_write;
 pub mod aps;
 mod ending;
-mod fields;
 mod inferred;
 pub mod lmcs;
 pub mod lmcs_set;

@@ -20,6 +20,7 @@ pub(crate) struct Reader<'a> {
     ghost known: { IsWindow bytes.now at left bits },
 }
 
+// What every field passes is inlined into the loops that read.
 impl<'a> Reader<'a> {
     ghost use Rattle.std.specs.Prelude.{pos, negsuc};
     ghost use Rattle.bitstream.specs.Fields.{read_trailing};
@@ -49,6 +50,7 @@ impl<'a> Reader<'a> {
     }
 
     // The same place with `need` bits or more.
+    #[inline(always)]
     fn fill(&mut self, need: u64)
         requires { need ≤ 57 }
         ensures { Stands self.old self.new × (need ≤ self.new.left) }
@@ -60,6 +62,7 @@ impl<'a> Reader<'a> {
     }
 
     // Whether n bits pass the input's end.
+    #[inline(always)]
     fn lacks(&self, n: u64) -> bool
         requires { n ≤ 64 }
         ensures { result ≡ ltb (length self.now.bytes.now * 8) (self.now.at + n) }
@@ -68,6 +71,7 @@ impl<'a> Reader<'a> {
     }
 
     // n bits on; `most` are counted off, so that the word is filled again after as many fields whatever their bits are.
+    #[inline(always)]
     fn pass(&mut self, n: u64, most: u64)
         requires { (n ≤ most) × (most ≤ self.old.left) × (most ≤ 57) × (self.old.at + n ≤ length self.old.bytes.now * 8) }
         ensures { (self.new.bytes.now ≡ self.old.bytes.now) × (self.new.at ≡ self.old.at + n) }
@@ -78,6 +82,7 @@ impl<'a> Reader<'a> {
     }
 
     // u(n), 1 <= n <= 32.
+    #[inline(always)]
     pub(crate) fn u(&mut self, n: u32, most: u64) -> Result<u32, Refusal>
         requires { (1 ≤ n) × (n ≤ most) × (most ≤ 32) }
         ensures { Reads (u n) (given result self.new.at) self.old self.new }
@@ -93,6 +98,7 @@ impl<'a> Reader<'a> {
     }
 
     // u(1) as a flag.
+    #[inline(always)]
     pub(crate) fn flag(&mut self) -> Result<bool, Refusal>
         ensures { Reads flag (given result self.new.at) self.old self.new }
     {
@@ -108,6 +114,7 @@ impl<'a> Reader<'a> {
     }
 
     // A magnitude u(n), and its sign if it is not 0.
+    #[inline(always)]
     pub(crate) fn signed(&mut self, n: u32) -> Result<(u32, bool), Refusal>
         requires { (1 ≤ n) × (n ≤ 16) }
         ensures { Reads (signed (u n)) (given result self.new.at) self.old self.new }
@@ -125,6 +132,7 @@ impl<'a> Reader<'a> {
     }
 
     // ue(v), of any length.
+    #[inline(always)]
     pub(crate) fn ue(&mut self) -> Result<u32, Refusal>
         ensures { Reads ue (given result self.new.at) self.old self.new }
     {
@@ -138,6 +146,7 @@ impl<'a> Reader<'a> {
     }
 
     // ue(v), looked for in the table first.
+    #[inline(always)]
     pub(crate) fn ue_by(&mut self, codes: &CodeTable) -> Result<u32, Refusal>
         ensures { Reads ue (given result self.new.at) self.old self.new }
     {
@@ -163,6 +172,7 @@ impl<'a> Reader<'a> {
     }
 
     // se(v) in -128..127.
+    #[inline(always)]
     pub(crate) fn se8(&mut self, codes: &CodeTable) -> Result<i32, Refusal>
         ensures { Reads (se_in (negsuc 127) (pos 127)) (given result self.new.at) self.old self.new }
     {
@@ -185,6 +195,7 @@ impl<'a> Reader<'a> {
     }
 
     // A magnitude in 0..128, and its sign if it is not 0: at most 17 bits and the sign, which is sent unless the first bit is 1.
+    #[inline(always)]
     pub(crate) fn coefficient(&mut self, codes: &CodeTable) -> Result<(u32, bool), Refusal>
         ensures { Reads coefficient (given result self.new.at) self.old self.new }
     {
@@ -205,6 +216,7 @@ impl<'a> Reader<'a> {
     }
 
     // One that the word does not hold, or that is refused.
+    #[inline(always)]
     fn long_coefficient(&mut self, codes: &CodeTable) -> Result<(u32, bool), Refusal>
         ensures { Reads coefficient (given result self.new.at) self.old self.new }
     {

@@ -14,9 +14,7 @@ use crate::numbers::{NUMBERS, put_set};
 use crate::sized;
 use aps_table::list::write_list;
 use aps_table::places::{Table, new_table};
-use aps_table::table::{
-    Counts, LookupOutcome, StreamAnswer, UnitAnswer, lookup, lookup_head, take_stream, take_unit,
-};
+use aps_table::table::{Counts, Taken, lookup, lookup_head, take_stream, take_unit};
 
 // A unit that is neither taken nor refused.
 pub const PASSED_OVER: u32 = 256;
@@ -35,9 +33,9 @@ pub fn aps_take_unit(table: &mut Table, unit: &[u8], work: &mut [u8]) -> u32
     ensures work { work.new ≡ work_after unit.now work.old }
 {
     match take_unit(table, unit, work) {
-        UnitAnswer::Accepted => 0,
-        UnitAnswer::Passed => PASSED_OVER,
-        UnitAnswer::Refused(why) => why.into(),
+        Ok(Taken::Accepted) => 0,
+        Ok(Taken::Passed) => PASSED_OVER,
+        Err(why) => why.into(),
     }
 }
 
@@ -63,11 +61,11 @@ pub fn aps_take_stream(
     ensures work { work.new ≡ work_after_stream bytes.now work.old }
 {
     match take_stream(table, bytes, work) {
-        StreamAnswer::Counted(c) => {
+        Ok(c) => {
             put_counts(c, counts);
             0
         }
-        StreamAnswer::Refused(why) => why.into(),
+        Err(why) => why.into(),
     }
 }
 
@@ -76,14 +74,12 @@ pub fn aps_lookup(table: &Table, kind: u8, id: u8, set: &mut [i64; NUMBERS]) -> 
     ensures code { result ≡ look_code (looked_up table.now kind id) }
     ensures set { set.new ≡ set_left (looked_up table.now kind id) set.old }
 {
-    let found = lookup(table, kind, id);
-    let outcome = found.outcome;
-    match outcome {
-        LookupOutcome::Found => {
-            put_set(&found.set, set);
+    match lookup(table, kind, id) {
+        Ok(found) => {
+            put_set(&found, set);
             0
         }
-        LookupOutcome::Refused(why) => why.into(),
+        Err(why) => why.into(),
     }
 }
 
@@ -105,15 +101,12 @@ pub fn aps_lookup_flags(table: &Table, kind: u8, id: u8, flags: &mut [u8; 2]) ->
     ensures code { result ≡ look_code (looked_up table.now kind id) }
     ensures flags { flags.new ≡ flags_left (looked_up table.now kind id) flags.old }
 {
-    let found = lookup_head(table, kind, id);
-    let outcome = found.outcome;
-    let head = found.head;
-    match outcome {
-        LookupOutcome::Found => {
+    match lookup_head(table, kind, id) {
+        Ok(head) => {
             put_flags(head.aps_chroma_present_flag, head.aps_extension_flag, flags);
             0
         }
-        LookupOutcome::Refused(why) => why.into(),
+        Err(why) => why.into(),
     }
 }
 

@@ -1,107 +1,64 @@
 -- A table without a set: places looked at one after another, and its list.
-use borrow.Author.Tests.{eqb-true, eqb-false, ne_eqb, le-ltb}
-use mathlib.Core.Path.{◌≡◌, refl, sym, ap, ◌∙◌}
+use Rattle.std.specs.Prelude.{Result, Ok, Err, is_ok}
+use borrow.Author.Tests.{eqb-true, ne_eqb, le-ltb}
+use mathlib.Core.Path.{◌≡◌, refl, sym, ◌∙◌}
 use mathlib.Core.Bool.{true, false}
-use mathlib.Core.List.{List, [], ◌∷◌, ◌++◌}
+use mathlib.Core.List.{List, [], ◌∷◌}
 use mathlib.Core.Option.{Option, none, some}
-use Prim.Native.Nat.{ℕ, suc, ◌+◌, ◌-◌, ◌≤◌, ◌<◌}
+use Prim.Native.Nat.{ℕ, ◌+◌}
 use native.Mathlib.Omega.{arith}
 use lib.Dec.{eqb}
-use lib.ListN.{length}
+use lib.ListN.{length, drop}
 use Rattle.bitstream.specs.Outcome.{value}
 use Rattle.bitstream.specs.Escapes.{put_bytes}
+use Rattle.aps.specs.declared.aps.ApsHead.{ApsHead}
 use Rattle.aps.specs.declared.aps.VvcAps.{VvcAps}
 use Rattle.bitstream.specs.declared.Refusal.{Refusal}
-use Rattle.aps_table.specs.Places.{Entries, ids, names, present, filled_among, filled, held, found, missing, found_in}
-use Rattle.aps_table.specs.Answers.{lookup_says, set_looked}
-use Rattle.aps_table.specs.declared.table.LookupOutcome.{LookupOutcome}
-use Rattle.aps_table.specs.declared.table.LookupOutcome.TheVariants as Lookup
+use Rattle.aps_table.specs.Places.{Entries, names, present, filled_among, filled, held, found_in}
+use Rattle.aps_table.specs.Answers.{head_answer, head_looked}
 use Rattle.aps_table.specs.List.{listed, any_extended, list_due, write_list}
-
--- found is not missing
-said-found : {a : VvcAps} {n : ℕ} → found a ≡ missing n → ⊥
-said-found e = let z : ◌≡◌ {A = ℕ} 0 1 = cc in omega arith
-
-said-missing : {a : VvcAps} {n : ℕ} → missing n ≡ found a → ⊥
-said-missing e = let z : ◌≡◌ {A = ℕ} 0 1 = cc in omega arith
 
 -- no set
 none-present : (a : Option VvcAps) → eqb (present a) 1 ≡ false → present a ≡ 0
 none-present none e = refl
 none-present (some a) e = cc
 
--- a lookup's outcome tells whether there is one
-pub found-present : {o : LookupOutcome} (m : Option VvcAps) → lookup_says o (set_looked (found_in m)) ≡ found_in m → o ≡ Lookup.Found → true ≡ eqb (present m) 1
-found-present none e f = absurd (said-found (rw f at e))
-found-present (some a) e f = refl
-
-pub missing-present : {o : LookupOutcome} (m : Option VvcAps) (why : Refusal) → lookup_says o (set_looked (found_in m)) ≡ found_in m → o ≡ Lookup.Refused why → false ≡ eqb (present m) 1
-missing-present none why e f = refl
-missing-present (some a) why e f = absurd (said-missing (rw f at e))
+-- a lookup's answer tells whether there is one
+pub answer-present : (r : Result ApsHead Refusal) (m : Option VvcAps) → head_answer r ≡ head_looked (found_in m) → is_ok r ≡ eqb (present m) 1
+answer-present (Ok h) none e = absurd cc
+answer-present (Ok h) (some a) e = refl
+answer-present (Err why) none e = refl
+answer-present (Err why) (some a) e = absurd cc
 
 -- no set among so many
 none_of : (a : Option VvcAps) (m : ℕ) → present a + m ≡ 0 → (a ≡ none) × (m ≡ 0)
 none_of none m e = (refl, omega (arith, e))
 none_of (some a) m e = absurd (omega (arith, e))
 
--- ---- the places of a kind, of which those from id i on are left
+-- ---- places looked at one after another
 
--- none has been looked at
-pub bare-start : (b : Entries) (k n : ℕ) → filled_among (ids k 0 n) b ≡ filled_among (ids k 0 (n - 0)) b
-bare-start b k n =
-    let z : n - 0 ≡ n = omega arith in
-    rw z
-
-module _ (b : Entries) (k i n total : ℕ) where
-  -- the next one, and those after it
-  split : i < n → filled_among (ids k i (n - i)) b ≡ present (b k i) + filled_among (ids k (i + 1) (n - (i + 1))) b
+module _ (b : Entries) (total : ℕ) (ns : List (ℕ × ℕ)) where
+  -- the next one has a set
+  pub bare-held : (n : ℕ × ℕ) (ms : List (ℕ × ℕ)) → total ≡ filled_among ns b → ns ≡ n ∷ ms → eqb (present (b n.0 n.1)) 1 ≡ true → false ≡ eqb total 0
   unfolding filled_among
-  split h =
-      let e : n - i ≡ suc (n - (i + 1)) = omega arith in
-      let f : i + 1 ≡ suc i = omega arith in
-      rw (e, f)
+  bare-held n ms e s f =
+      let g = eqb-true (present (b n.0 n.1)) 1 f in
+      let w : total ≡ present (b n.0 n.1) + filled_among ms b = rw s at e in
+      sym (ne_eqb total 0 (λ z. omega (arith, w, g, z)))
 
-  module _ (e : total ≡ filled_among (ids k i (n - i)) b) where
-    -- it has a set
-    pub bare-held : i < n → eqb (present (b k i)) 1 ≡ true → false ≡ eqb total 0
-    bare-held h f =
-        let g = eqb-true (present (b k i)) 1 f in
-        sym (ne_eqb total 0 (λ z. omega (arith, e, split h, g, z)))
-
-    -- it has none
-    pub bare-next : i < n → eqb (present (b k i)) 1 ≡ false → total ≡ filled_among (ids k (i + 1) (n - (i + 1))) b
-    bare-next h f = omega (arith, e, split h, none-present (b k i) f)
-
-    -- all have been looked at
-    pub bare-done : n ≤ i → true ≡ eqb total 0
-    unfolding filled_among
-    bare-done h =
-        let z : n - i ≡ 0 = omega arith in
-        let w : total ≡ 0 = e ∙ rw z in
-        rw w
-
--- ---- the three kinds
+  -- it has none
+  pub bare-next : (n : ℕ × ℕ) (ms : List (ℕ × ℕ)) → total ≡ filled_among ns b → ns ≡ n ∷ ms → eqb (present (b n.0 n.1)) 1 ≡ false → total ≡ filled_among ms b
+  unfolding filled_among
+  bare-next n ms e s f =
+      let w : total ≡ present (b n.0 n.1) + filled_among ms b = rw s at e in
+      omega (arith, w, none-present (b n.0 n.1) f)
 
 module _ (b : Entries) where
-  filled-append : (ns ms : List (ℕ × ℕ)) → filled_among (ns ++ ms) b ≡ filled_among ns b + filled_among ms b
+  -- all have been looked at
+  pub bare-done : (index : ℕ) → filled b ≡ filled_among (drop index names) b → index ≡ 20 → true ≡ eqb (filled b) 0
   unfolding filled_among
-  filled-append [] ms = omega arith
-  filled-append (n ∷ ns) ms = omega (arith, filled-append ns ms)
-
-  -- all places
-  pub filled-kinds : filled b ≡ filled_among (ids 0 0 8) b + (filled_among (ids 1 0 4) b + filled_among (ids 2 0 8) b)
-  filled-kinds = filled-append (ids 0 0 8) (ids 1 0 4 ++ ids 2 0 8) ∙ ap (λ (m : ℕ). filled_among (ids 0 0 8) b + m) (filled-append (ids 1 0 4) (ids 2 0 8))
-
-  -- the first kind with a set tells it
-  pub bare-first : eqb (filled_among (ids 0 0 8) b) 0 ≡ false → false ≡ eqb (filled b) 0
-  bare-first e = sym (ne_eqb (filled b) 0 (λ z. eqb-false (filled_among (ids 0 0 8) b) 0 e (omega (arith, filled-kinds, z))))
-
-  pub bare-second : eqb (filled_among (ids 1 0 4) b) 0 ≡ false → false ≡ eqb (filled b) 0
-  bare-second e = sym (ne_eqb (filled b) 0 (λ z. eqb-false (filled_among (ids 1 0 4) b) 0 e (omega (arith, filled-kinds, z))))
-
-  pub bare-third : eqb (filled_among (ids 0 0 8) b) 0 ≡ true → eqb (filled_among (ids 1 0 4) b) 0 ≡ true → eqb (filled_among (ids 2 0 8) b) 0 ≡ eqb (filled b) 0
-  bare-third e f =
-      let w : filled b ≡ filled_among (ids 2 0 8) b = omega (arith, filled-kinds, eqb-true (filled_among (ids 0 0 8) b) 0 e, eqb-true (filled_among (ids 1 0 4) b) 0 f) in
+  bare-done index e h =
+      let w : filled b ≡ 0 = e ∙ rw h in
       rw w
 
   -- ---- the list

@@ -23,7 +23,7 @@ use Rattle.aps.specs.declared.aps.VvcAps.{VvcAps}
 use Rattle.aps.proofs.CodecLaws.{and_left, and_right}
 use Rattle.aps.proofs.RbspLaws.{set_bits, read-stands}
 use Rattle.aps_table.specs.Places.{place_at, place_bytes, kind_in, id_in, under, held, present}
-use Rattle.aps_table.proofs.ListSteps.{largest-most}
+use Rattle.aps_table.proofs.PlaceSteps.{largest-most}
 use Rattle.aps_table.proofs.StoreLaws.{read_names}
 
 module _ (s : List ℕ) (a : VvcAps) (q : ℕ) (e : read_rbsp s ≡ value a q) where

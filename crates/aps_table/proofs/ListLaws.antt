@@ -4,9 +4,8 @@ use mathlib.Core.Path.{◌≡◌, refl, sym, ap, ◌∙◌}
 use mathlib.Core.Bool.{Bool, true, false, cond, ◌&&◌, ◌||◌, false≢true}
 use mathlib.Core.List.{List, [], ◌∷◌, ◌++◌, append_assoc, append-nil}
 use mathlib.Core.Option.{Option, none, some}
-use Prim.Native.Nat.{ℕ, zero, suc, ◌+◌, ◌≤◌}
+use Prim.Native.Nat.{ℕ, ◌+◌, ◌≤◌}
 use native.Mathlib.Nat.{add-zero, zero-add, add_assoc}
-use native.Mathlib.Numerals.{add-one}
 use native.Mathlib.Omega.{arith}
 use lib.Dec.{ltb, eqb}
 use lib.ListN.{length, drop}
@@ -16,15 +15,14 @@ use Rattle.bitstream.proofs.CodeLaws.{value-refused}
 use Rattle.bitstream.proofs.EscapeLaws.{escape-most}
 use Rattle.aps.specs.ApsSyntax.{number_of, aps}
 use Rattle.aps.specs.Rbsp.{read_rbsp, rbsp_bytes}
-use Rattle.aps.specs.declared.aps.ApsKind.{ApsKind}
 use Rattle.aps.specs.declared.aps.VvcAps.{VvcAps}
 use Rattle.aps.proofs.CodecLaws.{then-value}
 use Rattle.aps.proofs.RbspLaws.{rbsp-sound, rbsp-most}
 use Rattle.aps.specs.Writing.{bytes_due, rbsp_due, unit_of}
 use Rattle.aps.proofs.RbspWrites.{due-taken, taken-due}
-use Rattle.aps_table.specs.Places.{Entries, ids, names, kind_in, id_in, extended, place_bytes, under, held}
+use Rattle.aps_table.specs.Places.{Entries, names, kind_in, id_in, extended, place_bytes, under, held}
 use Rattle.aps_table.specs.List.{coded, entry, entry_due, joined, listed, is_extended, any_extended, list_due, write_list}
-use Rattle.aps_table.specs.Inner.{most_listed, list_at}
+use Rattle.aps_table.specs.Inner.{most_listed}
 
 -- ---- joined
 
@@ -55,20 +53,6 @@ module _ (b : Entries) where
   listed-append (n ∷ ns) ms =
       let e = entry (b n.0 n.1) in
       ap (joined e) (listed-append ns ms) ∙ sym (joined-joined e (listed ns b) (listed ms b))
-
-  -- those of n ids and of one more
-  listed_suc : (k i n : ℕ) → listed (ids k i (suc n)) b ≡ joined (listed (ids k i n) b) (entry (b k (i + n)))
-  unfolding listed
-  listed_suc k i zero = rw (add-zero i) (joined-last (entry (b k i)) ∙ sym (joined-first (entry (b k i))))
-  listed_suc k i (suc n) =
-      let e = entry (b k i) in
-      let w : suc i + n ≡ i + suc n = omega arith in
-      ap (joined e) (listed_suc k (suc i) n) ∙ sym (joined-joined e (listed (ids k (suc i) n) b) (entry (b k (suc i + n))))
-      ∙ ap (λ (m : ℕ). joined (joined e (listed (ids k (suc i) n) b)) (entry (b k m))) w
-
-  -- and from id 0 on
-  pub listed_next : (k n : ℕ) → listed (ids k 0 (n + 1)) b ≡ joined (listed (ids k 0 n) b) (entry (b k n))
-  listed_next k n = rw (add-one n) (listed_suc k 0 n ∙ ap (λ (m : ℕ). joined (listed (ids k 0 n) b) (entry (b k m))) (zero-add n))
 
 -- ---- a set held
 
@@ -184,13 +168,3 @@ entry-most a l n e =
     let (k, m, d, w) = then-value (bytes_due a) (λ bytes n. value (coded bytes) (length (coded bytes))) e in
     let v : length (coded k) ≡ n = cc in
     omega (arith, v, unit-most a k m d)
-
--- the entries of a kind fit one after another
-pub entry-fits : (a : VvcAps) (l : List ℕ) (n i p : ℕ) → entry_due a ≡ value l n → p ≤ list_at (kind_in a) i → p + n ≤ list_at (kind_in a) (i + 1)
-unfolding kind_in
-entry-fits a l n i p e h = go a.kind (entry-most a l n e) h
-  where
-    go : (k : ApsKind) → n ≤ most_listed (number_of k) → p ≤ list_at (number_of k) i → p + n ≤ list_at (number_of k) (i + 1)
-    go ApsKind.Alf m h = omega arith
-    go ApsKind.Lmcs m h = omega arith
-    go ApsKind.Scaling m h = omega arith

@@ -1,32 +1,31 @@
 -- What each way through the code of the list comes to: the bytes in the buffer so far.
-use Rattle.std.specs.Prelude.{Result, Ok, Err}
+use Rattle.std.specs.Prelude.{Result, Ok, Err, IfOk}
 use borrow.Author.Tests.{le-ltb}
 use borrow.Rule.Slice.PartMut.{mid_of, put_mid}
 use mathlib.Core.Path.{◌≡◌, refl, sym, ap, ◌∙◌}
 use mathlib.Core.Bool.{Bool, true, false, cond}
 use mathlib.Core.List.{List, [], ◌∷◌, ◌++◌, append_assoc}
 use mathlib.Core.Option.{Option, none, some}
-use Prim.Native.Nat.{ℕ, zero, suc, ◌+◌, ◌-◌, ◌≤◌}
+use Prim.Native.Nat.{ℕ, suc, ◌+◌, ◌-◌, ◌*◌, ◌/◌, ◌≤◌}
 use native.Mathlib.Omega.{arith}
 use lib.Dec.{ltb}
 use lib.ListN.{length, take, drop, set, length-append, length-take, length-drop}
 use lib.Seq.{sets, sets-eq, length-take-le, take-append-le, take-append-add, take-append_seam, take-take, drop_at}
-use Rattle.bitstream.specs.Outcome.{Outcome, value, refused, left, number, ◌then◌}
+use Rattle.bitstream.specs.Outcome.{Outcome, value, refused, left, ◌then◌}
 use Rattle.bitstream.specs.Escapes.{put_bytes}
 use Rattle.bitstream.specs.declared.Refusal.{Refusal}
 use Rattle.bitstream.proofs.CodeLaws.{value-refused}
 use Rattle.bitstream.proofs.EscapeLaws.{escape-most}
 use Rattle.bitstream.proofs.WriteLaws.{wrote}
-use Rattle.aps.specs.Kinds.{largest_id, most_bytes}
-use Rattle.aps.specs.Rbsp.{read_rbsp}
+use Rattle.aps.specs.Kinds.{most_bytes}
 use Rattle.aps.specs.declared.aps.VvcAps.{VvcAps}
 use Rattle.aps.specs.Unit.{is_aps}
 use Rattle.aps.specs.Writing.{unit_of, write_nal}
 use Rattle.aps.proofs.UnitWrites.{put-value}
-use Rattle.aps_table.specs.Places.{Entries, Names, ids, names, place_bytes, under, held, kind_in}
+use Rattle.aps_table.specs.Places.{Entries, names, held, kind_in}
 use Rattle.aps_table.specs.List.{coded, entry, entry_due, joined, listed, write_list}
-use Rattle.aps_table.specs.Inner.{up_to, AtMost, most_listed, list_at, list_bytes}
-use Rattle.aps_table.proofs.ListLaws.{joined-first, joined-last, joined-joined, listed-append, listed_next, held-some, listed-due, entry-fits}
+use Rattle.aps_table.specs.Inner.{up_to, most_listed, list_bytes}
+use Rattle.aps_table.proofs.ListLaws.{joined-first, joined-last, joined-joined, listed-due, entry-most}
 
 -- ---- a unit after its start code
 
@@ -49,7 +48,7 @@ nal-within bytes type out s last n e h = go (is_aps type) (ltb 65536 (length byt
 abbrev with_code : List ℕ → ℕ → List ℕ → List ℕ
 with_code out p last = set (set (set (set (put_mid (p + 4) (length out - (p + 4)) out last) p 0) (p + 1) 0) (p + 2) 0) (p + 3) 1
 
-module _ (out : List ℕ) (p : ℕ) (bytes : List ℕ) (h : (p + most_listed 2 ≤ length out) × (length bytes ≤ most_bytes 2)) where
+module _ (out : List ℕ) (p : ℕ) (bytes : List ℕ) (h : (p + (6 + length bytes * 3 / 2) ≤ length out) × (length bytes ≤ most_bytes 2)) where
   -- the unit of the bytes
   abbrev unit : List ℕ
   unit = unit_of 17 bytes
@@ -59,7 +58,7 @@ module _ (out : List ℕ) (p : ℕ) (bytes : List ℕ) (h : (p + most_listed 2 �
   rest = mid_of (p + 4) (length out - (p + 4)) out
 
   -- the unit after a start code is not too long
-  unit-small : 4 + length unit ≤ most_listed 2
+  unit-small : 4 + length unit ≤ 6 + length bytes * 3 / 2
   unfolding unit_of
   unit-small = omega (arith, h, escape-most bytes)
 
@@ -103,85 +102,69 @@ module _ (out : List ℕ) (p : ℕ) (bytes : List ℕ) (h : (p + most_listed 2 �
 
 -- ---- a place
 
--- the buffer has room for the entry of any place
-pub place-room : (k i p : ℕ) → Names k i → p ≤ list_at k i → p + most_listed 2 ≤ list_bytes
-place-room zero i p h l = omega arith
-place-room (suc zero) i p h l = omega arith
-place-room (suc (suc k)) i p h l = omega arith
-
--- the places of a kind come one after another
-list-more : (k i : ℕ) → list_at k i ≤ list_at k (i + 1)
-list-more zero i = omega arith
-list-more (suc zero) i = omega arith
-list-more (suc (suc k)) i = omega arith
-
--- an entry ends where the next place's may begin
-entry-within : (k i p : ℕ) (b : Option VvcAps) (r : Result ℕ Refusal) (last l : List ℕ) → ((a : VvcAps) → b ≡ some a → kind_in a ≡ k) → p ≤ list_at k i → up_to r last ≡ joined (value l p) (entry b)
-    → AtMost r (list_at k (i + 1))
-entry-within k i p b (Err n) last l w h e = tt
-entry-within k i p none (Ok q) last l w h e = let s : q ≡ p + 0 = cc in omega (arith, list-more k i)
-entry-within k i p (some a) (Ok q) last l w h e = go (entry_due a) refl e
+-- the entry that was put has at most the place's bytes
+pub entry-within : (k p : ℕ) (b : Option VvcAps) (r : Result ℕ Refusal) (last l : List ℕ) → ((a : VvcAps) → b ≡ some a → kind_in a ≡ k) → up_to r last ≡ joined (value l p) (entry b)
+    → IfOk r (λ q. q ≤ p + most_listed k)
+entry-within k p b (Err n) last l w e = tt
+entry-within k p none (Ok q) last l w e = let s : q ≡ p + 0 = cc in omega arith
+entry-within k p (some a) (Ok q) last l w e = go (entry_due a) refl e
   where
-    go : (o : Outcome (List ℕ)) → entry_due a ≡ o → value (take q last) q ≡ joined (value l p) o → q ≤ list_at k (i + 1)
+    go : (o : Outcome (List ℕ)) → entry_due a ≡ o → value (take q last) q ≡ joined (value l p) o → q ≤ p + most_listed k
     go (value m n) f e =
         let s : q ≡ p + n = cc in
-        let v = w a refl in
-        let b : p + n ≤ list_at k (i + 1) = rw v at (entry-fits a m n i p f (rw v h)) in
+        let b : n ≤ most_listed k = rw (w a refl) at (entry-most a m n f) in
         omega arith
     go (refused n) f e = absurd (value-refused e)
 
-module _ (t : List ℕ) (k i : ℕ) (from : Result ℕ Refusal) (buffer : List ℕ) where
-  module _ (p : ℕ) (f : from ≡ Ok p) (h : AtMost from (list_at k i)) where
-    -- a place's bytes begin in time
-    pub place_at_lem : p ≤ list_at k i
-    place_at_lem = rw f at h
-
-    -- the entry of a place's bytes
-    pub place-put : (s : List ℕ) (r : Result ℕ Refusal) (last : List ℕ) → s ≡ place_bytes t k i → up_to r last ≡ joined (value (take p buffer) p) (entry (under k i (read_rbsp s)))
-        → (up_to r last ≡ joined (up_to from buffer) (entry (held t k i))) × AtMost r (list_at k (i + 1))
-    unfolding held
-    place-put s r last e w =
-        let v : up_to r last ≡ joined (value (take p buffer) p) (entry (held t k i)) = rw e at w in
-        (v ∙ rw f, entry-within k i p (held t k i) r last (take p buffer) (λ a g. (held-some t k i a g).0) place_at_lem v)
-
-  -- a refusal stays
-  pub place-refused : (n : Refusal) → from ≡ Err n → refused (number n) ≡ joined (up_to from buffer) (entry (held t k i))
-  place-refused n f = rw f
-
--- ---- the places of a kind
-
--- no kind's largest id is over that of ALF
-pub largest-most : (k : ℕ) → largest_id k ≤ largest_id 0
-largest-most zero = omega arith
-largest-most (suc zero) = omega arith
-largest-most (suc (suc k)) = omega arith
-
-module _ (b : Entries) (k : ℕ) (o : Outcome (List ℕ)) where
-  -- before the first
-  pub kind-start : o ≡ joined o (listed (ids k 0 0) b)
-  unfolding listed
-  kind-start = sym (joined-last o)
-
-  -- one more
-  pub kind-next : (i : ℕ) (p q : Outcome (List ℕ)) → p ≡ joined o (listed (ids k 0 i) b) → q ≡ joined p (entry (b k i)) → q ≡ joined o (listed (ids k 0 (i + 1)) b)
-  kind-next i p q e f =
-      f ∙ ap (λ (x : Outcome (List ℕ)). joined x (entry (b k i))) e ∙ joined-joined o (listed (ids k 0 i) b) (entry (b k i)) ∙ ap (joined o) (sym (listed_next b k i))
-
-  -- all of them
-  pub kind-done : (i n : ℕ) (p : Outcome (List ℕ)) (r : Result ℕ Refusal) → i ≡ n → p ≡ joined o (listed (ids k 0 i) b) → AtMost r (list_at k i)
-      → (p ≡ joined o (listed (ids k 0 n) b)) × AtMost r (list_at k n)
-  kind-done i n p r e f h = (rw e at f, rw e at h)
-
 -- ---- all places
 
--- the three kinds one after another
-pub all_listed : (b : Entries) (l m n : Outcome (List ℕ)) → l ≡ joined (value [] 0) (listed (ids 0 0 (largest_id 0 + 1)) b) → m ≡ joined l (listed (ids 1 0 (largest_id 1 + 1)) b) → n ≡ joined m (listed (ids 2 0 (largest_id 2 + 1)) b) → n ≡ listed names b
-all_listed b l m n e f g =
-    let x = listed (ids 0 0 (largest_id 0 + 1)) b in
-    let y = listed (ids 1 0 (largest_id 1 + 1)) b in
-    let z = listed (ids 2 0 (largest_id 2 + 1)) b in
-    let u : l ≡ x = e ∙ joined-first x in
-    rw (g, f, u) (joined-joined x y z ∙ ap (joined x) (sym (listed-append b (ids 1 0 (largest_id 1 + 1)) (ids 2 0 (largest_id 2 + 1)))) ∙ sym (listed-append b (ids 0 0 (largest_id 0 + 1)) (ids 1 0 (largest_id 1 + 1) ++ ids 2 0 (largest_id 2 + 1))))
+-- the most bytes of the units of places
+unfoldable pub room : List (ℕ × ℕ) → ℕ
+room [] = 0
+room (n ∷ ns) = most_listed n.0 + room ns
+
+-- what the places from `index` on have to be put after comes to the whole list
+pub record Listing (b : Entries) (l : List ℕ) (at index : ℕ) : Type 0 where
+  pub room-left : at + room (drop index names) ≤ list_bytes
+  pub whole : joined (value (take at l) at) (listed (drop index names) b) ≡ listed names b
+
+-- no place's unit has been put
+pub listing-start : (b : Entries) (l : List ℕ) → Listing b l 0 0
+unfolding room
+listing-start b l = record { room-left = omega arith; whole = joined-first (listed names b) }
+
+module _ {b : Entries} {l : List ℕ} {at index : ℕ} (L : Listing b l at index) (n : ℕ × ℕ) (s : drop index names ≡ n ∷ drop (index + 1) names) where
+  -- the next one has room
+  pub listing-room : at + most_listed n.0 + room (drop (index + 1) names) ≤ list_bytes
+  unfolding room
+  listing-room =
+      let w : at + (most_listed n.0 + room (drop (index + 1) names)) ≤ list_bytes = rw s at L.room-left in
+      omega arith
+
+  -- it comes first
+  next-whole : joined (joined (value (take at l) at) (entry (b n.0 n.1))) (listed (drop (index + 1) names) b) ≡ listed names b
+  unfolding listed
+  next-whole =
+      let w : joined (value (take at l) at) (joined (entry (b n.0 n.1)) (listed (drop (index + 1) names) b)) ≡ listed names b = rw s at L.whole in
+      joined-joined (value (take at l) at) (entry (b n.0 n.1)) (listed (drop (index + 1) names) b) ∙ w
+
+  -- it was put
+  pub listing-next : (last : List ℕ) (q : ℕ) → value (take q last) q ≡ joined (value (take at l) at) (entry (b n.0 n.1)) → q ≤ at + most_listed n.0 → Listing b last q (index + 1)
+  listing-next last q e h = record {
+    room-left = omega (arith, listing-room, h);
+    whole = ap (λ (o : Outcome (List ℕ)). joined o (listed (drop (index + 1) names) b)) e ∙ next-whole;
+  }
+
+  -- it was refused
+  pub listing-refused : (e : ℕ) → refused e ≡ joined (value (take at l) at) (entry (b n.0 n.1)) → refused e ≡ listed names b
+  listing-refused e f = ap (λ (o : Outcome (List ℕ)). joined o (listed (drop (index + 1) names) b)) f ∙ next-whole
+
+-- all have been put
+pub listing-done : {b : Entries} {l : List ℕ} {at index : ℕ} → Listing b l at index → index ≡ 20 → value (take at l) at ≡ listed names b
+unfolding listed
+listing-done {l} {at} L h =
+    let w = rw h at L.whole in
+    sym (joined-last (value (take at l) at)) ∙ w
 
 -- ---- the list
 

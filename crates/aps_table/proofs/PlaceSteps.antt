@@ -1,79 +1,59 @@
 -- The places of the table: where each stands, bytes put into it and taken out of it, and the set that it holds.
-use borrow.Author.Tests.{ltb-true, leb-true, le-ltb, not-true, not-false}
+use borrow.Author.Tests.{leb-true, leb-false, lt-ltb, le-leb, le-ltb, lt-leb, not-true, not-false}
 use mathlib.Core.Path.{◌≡◌, refl, sym, ap, ◌∙◌}
-use mathlib.Core.Bool.{Bool, true, false, not, ◌&&◌}
-use mathlib.Core.List.{List}
+use mathlib.Core.Bool.{Bool, true, false, not, ◌&&◌, and-false}
+use mathlib.Core.List.{List, [], ◌∷◌, ◌++◌, append-nil, append_assoc}
 use mathlib.Core.Option.{none, some}
 use Prim.Native.Nat.{ℕ, zero, suc, ◌+◌, ◌-◌, ◌≤◌, ◌<◌}
+use native.Mathlib.Nat.{add-zero, zero-add}
+use native.Mathlib.Numerals.{add-one}
 use native.Mathlib.Omega.{arith}
 use lib.Dec.{leb, ltb, eqb}
-use lib.ListN.{length, get_or, set, take, drop, drop_of_length-le, length-take}
-use lib.Seq.{sets, drop-cons}
-use Rattle.bitstream.specs.Outcome.{Outcome, value, number}
-use Rattle.bitstream.specs.declared.Refusal.{Refusal}
+use lib.ListN.{length, get_or, take, drop, length-take, get_or-eq_default}
+use lib.Seq.{sets, sets-eq, drop-drop, get_or-take, get_or-drop}
+use Rattle.bitstream.specs.Outcome.{Outcome, value}
+use Rattle.bitstream.proofs.KeepLaws.{Bytes}
 use Rattle.aps.specs.Kinds.{largest_id, most_bytes}
-use Rattle.aps.specs.ApsSyntax.{number_of, empty_set}
-use Rattle.aps.specs.Rbsp.{read_rbsp, parse_aps_rbsp}
-use Rattle.aps.specs.Reading.{head_of}
-use Rattle.aps.specs.declared.aps.ApsHead.{ApsHead}
+use Rattle.aps.specs.ApsSyntax.{number_of}
+use Rattle.aps.specs.Rbsp.{read_rbsp}
 use Rattle.aps.specs.declared.aps.VvcAps.{VvcAps}
-use Rattle.aps.proofs.CodecLaws.{and_left, and_right}
-use Rattle.aps.proofs.RbspSteps.{in-limits}
-use Rattle.aps_table.specs.Places.{Names, named, place_at, table_bytes, place_bytes, kind_in, id_in, under, held, Looked, found, missing, found_in, lookup_in, looked_up}
-use Rattle.aps_table.specs.Answers.{lookup_says, lookup_answer, set_looked}
-use Rattle.aps_table.specs.declared.table.LookupAnswer.{LookupAnswer}
-use Rattle.aps_table.specs.declared.table.LookupOutcome.TheVariants as Lookup
-use Rattle.aps_table.specs.declared.table.HeadLookup.{HeadLookup}
+use Rattle.aps.specs.declared.aps.ApsKind.{ApsKind}
+use Rattle.aps_table.specs.Places.{Names, named, ids, names, place_at, table_bytes, place_bytes, kind_in, id_in, under, held, missing, found_in, lookup_in, looked_up}
 
 -- ---- where they stand
 
--- the size of a place of a kind that is neither 0 nor 1
-pub other-size : (k : ℕ) → (k ≡ 0 → ⊥) → (k ≡ 1 → ⊥) → most_bytes 2 ≡ most_bytes k
-other-size zero a b = absurd (a refl)
-other-size (suc zero) a b = absurd (b refl)
-other-size (suc (suc k)) a b = refl
+-- a place's kind and id name it
+pub names-of : (k : ApsKind) (i : ℕ) → i ≤ largest_id (number_of k) → Names (number_of k) i
+names-of ApsKind.Alf i h = (omega arith, h)
+names-of ApsKind.Lmcs i h = (omega arith, h)
+names-of ApsKind.Scaling i h = (omega arith, h)
 
--- where it begins
-pub other_place : (k i : ℕ) → (k ≡ 0 → ⊥) → (k ≡ 1 → ⊥) → place_at 2 i ≡ place_at k i
-other_place zero i a b = absurd (a refl)
-other_place (suc zero) i a b = absurd (b refl)
-other_place (suc (suc k)) i a b = refl
+-- no kind's largest id is over 7
+pub largest-most : (k : ℕ) → largest_id k ≤ 7
+largest-most zero = omega arith
+largest-most (suc zero) = omega arith
+largest-most (suc (suc k)) = omega arith
 
--- a kind and an id that are named name a place
-pub named-names : (k i : ℕ) → named k i ≡ true → Names k i
+-- what names a place is named
+named-names : (k i : ℕ) → Names k i → named k i ≡ true
 unfolding named
-named-names k i e = (ltb-true k 3 (and_left (ltb k 3) (leb i (largest_id k)) e), leb-true i (largest_id k) (and_right (ltb k 3) (leb i (largest_id k)) e))
+named-names k i h = rw (lt-ltb k 3 h.0, le-leb i (largest_id k) h.1)
 
--- a kind that is none of the three names none
-pub none_named : (k i : ℕ) → (k ≡ 0 → ⊥) → (k ≡ 1 → ⊥) → (k ≡ 2 → ⊥) → false ≡ named k i
+-- a number that is no kind's names none
+pub none_named : (k i : ℕ) → 3 ≤ k → named k i ≡ false
 unfolding named
-none_named k i a b d = rw (le-ltb k 3 (omega arith))
+none_named k i h = rw (le-ltb k 3 h)
+
+-- nor does an id over the kind's largest
+pub over-named : (k i : ℕ) → largest_id k < i → named k i ≡ false
+unfolding named
+over-named k i h = rw (lt-leb i (largest_id k) h, and-false (ltb k 3))
 
 -- a place is within the table, and no larger than a scaling set's
 pub place-within : (k i : ℕ) → Names k i → (place_at k i + most_bytes k ≤ table_bytes) × (most_bytes k ≤ most_bytes 2)
 place-within zero i (h, l) = (omega arith, omega arith)
 place-within (suc zero) i (h, l) = (omega arith, omega arith)
 place-within (suc (suc k)) i (h, l) = (omega arith, omega arith)
-
--- it has a byte
-pub place-some : (k i : ℕ) → Names k i → place_at k i < table_bytes
-place-some zero i (h, l) = omega arith
-place-some (suc zero) i (h, l) = omega arith
-place-some (suc (suc k)) i (h, l) = omega arith
-
--- ---- bytes put into the table
-
-module _ (table bytes : List ℕ) (base i : ℕ) where
-  -- the loop has put the bytes below i: one byte more
-  pub stored_more : i < length bytes → sets (set table (base + i) (get_or bytes i 0)) (base + (i + 1)) (drop (i + 1) bytes) ≡ sets table (base + i) (drop i bytes)
-  stored_more h =
-      let a : base + (i + 1) ≡ suc (base + i) = omega arith in
-      let b : i + 1 ≡ suc i = omega arith in
-      rw (a, b, drop-cons bytes i 0)
-
-  -- the loop has put them all
-  pub stored-all : length bytes ≤ i → sets table (base + i) (drop i bytes) ≡ table
-  stored-all h = rw (drop_of_length-le bytes h)
 
 -- ---- bytes read from it
 
@@ -84,34 +64,43 @@ place-part table k i n base s a =
     let m : base + n - base ≡ most_bytes k = omega arith in
     rw (m, a)
 
--- no more than a scaling set's
-pub place-most : (table : List ℕ) (k i : ℕ) → Names k i → length (place_bytes table k i) ≤ most_bytes 2
-unfolding place_bytes
-place-most table k i h = omega (arith, (place-within k i h).1, length-take (most_bytes k) (drop (place_at k i) table))
+-- bytes stored from where it begins on
+pub stored : (table bytes : List ℕ) (base i : ℕ) → base ≡ i → i + length bytes ≤ length table
+    → take base table ++ (bytes ++ drop (base + length bytes - base) (drop base table)) ≡ sets table i bytes
+stored table bytes base i e h =
+    let n : base + length bytes - base ≡ length bytes = omega arith in
+    rw (n, e, drop-drop (length bytes) i table) (sym (sets-eq bytes table i h ∙ append_assoc (take i table) bytes (drop (i + length bytes) table)))
 
--- they are read as the place says
-pub place_read : (table : List ℕ) (k i n base : ℕ) → Names k i → n ≡ most_bytes k → base ≡ place_at k i
-    → parse_aps_rbsp (take (base + n - base) (drop base table)) ≡ read_rbsp (place_bytes table k i)
-place_read table k i n base h s a = ap parse_aps_rbsp (place-part table k i n base s a) ∙ in-limits (place_bytes table k i) (omega (arith, place-most table k i h))
+-- no more than a set of its kind takes
+pub place-most : (table : List ℕ) (k i : ℕ) → Names k i → length (place_bytes table k i) ≤ most_bytes k
+unfolding place_bytes
+place-most table k i h = omega (arith, length-take (most_bytes k) (drop (place_at k i) table))
+
+-- bytes that are a place's are few
+pub place-few : (table bytes : List ℕ) (k i : ℕ) → Names k i → bytes ≡ place_bytes table k i → (length bytes ≤ most_bytes k) × (length bytes ≤ most_bytes 2)
+place-few table bytes k i h e = rw e (place-most table k i h, omega (arith, place-most table k i h, (place-within k i h).1))
+
+-- and bytes
+pub place-bytes : (table : List ℕ) (k i : ℕ) → Bytes table → Bytes (place_bytes table k i)
+unfolding place_bytes
+place-bytes table k i h j = go (leb (suc j) (most_bytes k)) refl
+  where
+    l : List ℕ
+    l = drop (place_at k i) table
+
+    go : (b : Bool) → leb (suc j) (most_bytes k) ≡ b → get_or (take (most_bytes k) l) j 0 < 256
+    go true e = omega (arith, get_or-take (most_bytes k) l j 0 (leb-true _ _ e), get_or-drop (place_at k i) table j 0, h (place_at k i + j))
+    go false e =
+        let n = leb-false (suc j) (most_bytes k) e in
+        let d : get_or (take (most_bytes k) l) j 0 ≡ 0 = get_or-eq_default (take (most_bytes k) l) 0 (omega (arith, n, length-take (most_bytes k) l)) in
+        omega (arith, d)
+
+-- what they are read as tells what it holds
+pub held-read : (table bytes : List ℕ) (k i : ℕ) → bytes ≡ place_bytes table k i → held table k i ≡ under k i (read_rbsp bytes)
+unfolding held
+held-read table bytes k i e = rw e
 
 -- ---- the set that a place holds
-
--- an answer that says what another definition comes to
-pub answer-as : (r : LookupAnswer) {l m : Looked} → (lookup_answer r ≡ l) × (r.set ≡ set_looked l) → m ≡ l → (lookup_answer r ≡ m) × (r.set ≡ set_looked m)
-answer-as r h e = (h.0 ∙ sym e, h.1 ∙ ap set_looked (sym e))
-
--- the same of an answer without arrays
-pub head_as : (r : HeadLookup) {l m : Looked} → (lookup_says r.outcome (set_looked l) ≡ l) × (r.head ≡ head_of (set_looked l)) → m ≡ l
-    → (lookup_says r.outcome (set_looked m) ≡ m) × (r.head ≡ head_of (set_looked m))
-head_as r h e = rw (e) h
-
--- where there is no set, and where there is one
-pub head-missing : (r : HeadLookup) (why : Refusal) {m : Looked} → (r.outcome ≡ Lookup.Refused why) × (r.head ≡ head_of empty_set) → m ≡ missing (number why)
-    → (lookup_says r.outcome (set_looked m) ≡ m) × (r.head ≡ head_of (set_looked m))
-head-missing r why (o, h) e = rw (e) (rw (o) refl, h)
-
-pub head-found : (h : ApsHead) (a : VvcAps) {m : Looked} → h ≡ head_of a → m ≡ found a → (lookup_says Lookup.Found (set_looked m) ≡ m) × (h ≡ head_of (set_looked m))
-head-found h a f e = rw (e) (refl, f)
 
 module _ (k i : ℕ) (a : VvcAps) {q : ℕ} {o : Outcome VvcAps} (e : o ≡ value a q) {b : Bool} (f : b ≡ (eqb (number_of a.kind) k && eqb a.aps_adaptation_parameter_set_id i)) where
   -- a place with a set of another kind or id is empty
@@ -131,6 +120,44 @@ module _ (table : List ℕ) (k i : ℕ) where
   looked-none e = rw e
 
   -- with others the place is
-  pub looked-held : named k i ≡ true → looked_up table k i ≡ found_in (held table k i)
+  pub looked-held : Names k i → looked_up table k i ≡ found_in (held table k i)
   unfolding lookup_in
-  looked-held e = rw e
+  looked-held h = rw (named-names k i h)
+
+-- ---- the places in order
+
+-- those of a kind, and others after them
+module _ (k : ℕ) (ms : List (ℕ × ℕ)) where
+  ids-nth : (j n i : ℕ) → i < n → drop i (ids k j n ++ ms) ≡ (k, j + i) ∷ drop (suc i) (ids k j n ++ ms)
+  ids-nth j zero i h = absurd (omega arith)
+  ids-nth j (suc n) zero h = rw add-zero
+  ids-nth j (suc n) (suc i) h =
+      let e : suc j + i ≡ j + suc i = omega arith in
+      ids-nth (suc j) n i (omega arith) ∙ ap (λ (m : ℕ). (k, m) ∷ drop (suc i) (ids k (suc j) n ++ ms)) e
+
+  ids-past : (j n i : ℕ) → drop (n + i) (ids k j n ++ ms) ≡ drop i ms
+  ids-past j zero i = rw zero-add
+  ids-past j (suc n) i =
+      let e : suc n + i ≡ suc (n + i) = omega arith in
+      rw e (ids-past (suc j) n i)
+
+  -- a place among the others
+  past-nth : (j n i : ℕ) (m : ℕ × ℕ) → drop i ms ≡ m ∷ drop (suc i) ms → drop (n + i) (ids k j n ++ ms) ≡ m ∷ drop (suc (n + i)) (ids k j n ++ ms)
+  past-nth j n i m h =
+      let e : suc (n + i) ≡ n + suc i = omega arith in
+      ids-past j n i ∙ h ∙ rw e (ap (λ (l : List (ℕ × ℕ)). m ∷ l) (sym (ids-past j n (suc i))))
+
+-- an ALF place, an LMCS place, a scaling lists place
+pub alf-nth : (i : ℕ) → i < 8 → drop i names ≡ (0, i) ∷ drop (i + 1) names
+alf-nth i h = rw (add-one i) (rw zero-add at (ids-nth 0 (ids 1 0 4 ++ ids 2 0 8) 0 8 i h))
+
+pub lmcs-nth : (i : ℕ) → 8 ≤ i → i < 12 → drop i names ≡ (1, i - 8) ∷ drop (i + 1) names
+lmcs-nth i h l =
+    let e : 8 + (i - 8) ≡ i = omega arith in
+    rw (add-one i) (rw (e, zero-add) at (past-nth 0 (ids 1 0 4 ++ ids 2 0 8) 0 8 (i - 8) (1, 0 + (i - 8)) (ids-nth 1 (ids 2 0 8) 0 4 (i - 8) (omega arith))))
+
+pub scaling-nth : (i : ℕ) → 12 ≤ i → i < 20 → drop i names ≡ (2, i - 8 - 4) ∷ drop (i + 1) names
+scaling-nth i h l =
+    let e : 8 + (4 + (i - 8 - 4)) ≡ i = omega arith in
+    let r = rw append-nil at (ids-nth 2 [] 0 8 (i - 8 - 4) (omega arith)) in
+    rw (add-one i) (rw (e, zero-add) at (past-nth 0 (ids 1 0 4 ++ ids 2 0 8) 0 8 (4 + (i - 8 - 4)) (2, 0 + (i - 8 - 4)) (past-nth 1 (ids 2 0 8) 0 4 (i - 8 - 4) (2, 0 + (i - 8 - 4)) r)))

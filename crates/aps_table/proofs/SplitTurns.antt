@@ -9,9 +9,8 @@ use native.Mathlib.Omega.{arith}
 use lib.ListN.{length, get_or, drop, drop_of_length-le}
 use lib.Seq.{drop-cons, drop-drop, take-add, take-append_seam}
 use Rattle.aps_table.specs.Split.{Units, prepend, ended, gap, body}
-use Rattle.aps_table.specs.Inner.{Skipped, InUnit, UnitEnd, Follows, between, splits}
+use Rattle.aps_table.specs.Inner.{Skipped, InUnit, UnitEnd, UnitAt, between, splits}
 use Rattle.aps_table.proofs.SplitLaws.{prepend-nil, prepend-prepend}
-use Rattle.aps_table.specs.declared.split.Next.TheVariants as Next
 
 -- a zero byte outside of a unit
 pub gap-zero : (s : List ℕ) (i z : ℕ) → i < length s → get_or s i 0 ≡ 0 → gap z (drop i s) ≡ gap (z + 1) (drop (i + 1) s)
@@ -182,5 +181,5 @@ splits-ended v none = refl
 splits-ended v (some us) = refl
 
 -- past a unit the split holds as it does from the unit's end on
-pub splits-next : {s : List ℕ} {i a e : ℕ} → Follows s i (Next.Unit a e) → splits (gap 0 (drop i s)) ≡ splits (gap 0 (drop e s))
+pub splits-next : {s : List ℕ} {i a e : ℕ} → UnitAt s i a e → splits (gap 0 (drop i s)) ≡ splits (gap 0 (drop e s))
 splits-next {s} {a} {e} f = ap splits f.is ∙ splits-ended (between s a e) (gap 0 (drop e s))

@@ -11,16 +11,14 @@ use lib.Dec.{eqb, leb}
 use lib.ListN.{length, get_or, set, take, drop, replicate, length-take, get_or-eq_default, length-replicate}
 use lib.Seq.{sets, sets-eq, take-set-le, drop-set-lt, drop-set-add, drop_at, take_at, length-take-le, get_or-take, get_or-drop}
 use Rattle.bitstream.specs.Outcome.{Outcome, value, refused}
-use Rattle.aps.specs.Kinds.{largest_id, most_bytes}
-use Rattle.aps.specs.ApsSyntax.{number_of}
+use Rattle.aps.specs.Kinds.{most_bytes}
 use Rattle.aps.specs.Rbsp.{read_rbsp}
-use Rattle.aps.specs.declared.aps.ApsKind.{ApsKind}
 use Rattle.aps.specs.declared.aps.VvcAps.{VvcAps}
 use Rattle.aps.proofs.RbspLaws.{rbsp-id, rbsp-end, read-most}
 use Rattle.aps.proofs.LocalLaws.{zeros-none, rbsp-copy}
 use Rattle.aps_table.specs.Places.{Names, place_at, table_bytes, place_bytes, new_table, kind_in, id_in, under, held}
 use Rattle.aps_table.specs.Book.{replace}
-use Rattle.aps_table.proofs.PlaceSteps.{place-within}
+use Rattle.aps_table.proofs.PlaceSteps.{names-of, place-within}
 
 -- ---- bytes stored
 
@@ -108,25 +106,14 @@ place-own t bytes k i m e h n l =
 -- ---- sets
 
 -- a set that was read names a place, and its bytes fit there
-kind-names : (k : ApsKind) (i : ℕ) → i ≤ largest_id (number_of k) → Names (number_of k) i
-kind-names ApsKind.Alf i h = (omega arith, omega arith)
-kind-names ApsKind.Lmcs i h = (omega arith, omega arith)
-kind-names ApsKind.Scaling i h = (omega arith, omega arith)
-
 module _ (r : List ℕ) (a : VvcAps) (q : ℕ) (e : read_rbsp r ≡ value a q) where
   pub read_names : Names (kind_in a) (id_in a)
   unfolding kind_in id_in
-  read_names = kind-names a.kind a.aps_adaptation_parameter_set_id (rbsp-id r a q e)
+  read_names = names-of a.kind a.aps_adaptation_parameter_set_id (rbsp-id r a q e)
 
   pub read_fits : length (take ((q + 7) / 8) r) ≤ most_bytes (kind_in a)
   unfolding kind_in
   read_fits = omega (arith, read-most r a q e, length-take-le ((q + 7) / 8) r (omega (arith, rbsp-end r a q e)))
-
-  -- so they end within the table
-  pub read-inside : place_at (kind_in a) (id_in a) + (q + 7) / 8 ≤ table_bytes
-  read-inside =
-      let l : length (take ((q + 7) / 8) r) ≡ (q + 7) / 8 = length-take-le ((q + 7) / 8) r (omega (arith, rbsp-end r a q e)) in
-      omega (arith, (place-within (kind_in a) (id_in a) read_names).0, read_fits)
 
   -- its place holds it
   stored-own : (t : List ℕ) → length t ≡ table_bytes → held (sets t (place_at (kind_in a) (id_in a)) (take ((q + 7) / 8) r)) (kind_in a) (id_in a) ≡ some a

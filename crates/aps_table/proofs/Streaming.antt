@@ -1,4 +1,5 @@
 -- A stream taken unit by unit: its refusals, and the loop's invariant with its turn and its end.
+use Rattle.std.specs.Prelude.{Option, None, Some, Result, Ok, Err}
 use borrow.Author.Tests.{lt-ltb, le-ltb}
 use mathlib.Core.Path.{◌≡◌, refl, sym, ap, ◌∙◌}
 use mathlib.Core.Bool.{true, false, false≢true}
@@ -8,12 +9,13 @@ use Prim.Native.Nat.{ℕ, ◌+◌, ◌≤◌, ◌<◌}
 use native.Mathlib.Omega.{arith}
 use lib.ListN.{length, drop}
 use Rattle.bitstream.specs.Outcome.{value, refused}
+use Rattle.bitstream.specs.declared.Refusal.{Refusal}
 use Rattle.aps.specs.Unit.{work_after}
 use Rattle.aps_table.specs.Split.{Units, split, prepend, ended, gap}
-use Rattle.aps_table.specs.Inner.{Follows, between, splits, units_of}
+use Rattle.aps_table.specs.Inner.{UnitAt, Follows, between, splits, units_of}
 use Rattle.aps_table.specs.Taking.{Verdict, accept, pass, refuse, verdict, take_unit, take_units, work_units, count, tally, no_units}
 use Rattle.aps_table.specs.Calls.{Answer, counted, refusal, single, fitting, units_taken, after_units, counting, work_after_stream}
-use Rattle.aps_table.specs.declared.split.Next.TheVariants as Next
+use Rattle.aps_table.specs.declared.split.Unit.{Unit as Bounds}
 use Rattle.aps_table.specs.declared.table.Counts.{Counts}
 
 -- ---- what a stream comes to
@@ -97,7 +99,7 @@ count-one (refuse n) c = omega arith
 
 module _ {s w₀ t₀ w t : List ℕ} {c : Counts} {i : ℕ} (S : Streaming s w₀ t₀ w t c i) where
   -- a turn: the unit from a to e is taken
-  pub turn : (a e : ℕ) (w' t' : List ℕ) (c' : Counts) (r : Answer) → Follows s i (Next.Unit a e) → length w' ≡ length w
+  pub turn : (a e : ℕ) (w' t' : List ℕ) (c' : Counts) (r : Answer) → UnitAt s i a e → length w' ≡ length w
       → (r ≡ single (verdict (between s a e) (length w))) × ((t' ≡ take_unit (length w) (between s a e) t) × (w' ≡ work_after (between s a e) w))
       → ((v : Verdict) → r ≡ single v → c' ≡ count v c) → Streaming s w₀ t₀ w' t' c' e
   unfolding take_units work_units tally
@@ -108,23 +110,21 @@ module _ {s w₀ t₀ w t : List ℕ} {c : Counts} {i : ℕ} (S : Streaming s w�
       let ec' : c' ≡ count (verdict u (length w₀)) c = rw S.same at (ec (verdict u (length w)) er) in
       let et' : t' ≡ take_unit (length w₀) u t = rw S.same at et in
       record {
-        within = f.after.2;
+        within = f.to;
         same = el ∙ S.same;
         holds = n.1;
-        few = rw ec' (omega (arith, count-one (verdict u (length w₀)) c, S.few, f.after.0, f.after.1));
+        few = rw ec' (omega (arith, count-one (verdict u (length w₀)) c, S.few, f.after, f.from));
         counts = rw ec' (rw l at S.counts);
         table = rw et' (rw l at S.table);
         work = rw ew (rw l at S.work);
       }
 
-  -- the end: all is taken
-  pub finish : Follows s i Next.End
+  -- no unit follows, and a split that holds is not refused later on: all is taken
+  pub finish : (r : Result (Option Bounds) Refusal) → Follows s i r → ((u : Bounds) → r ≡ Ok (Some u) → ⊥)
       → (c ≡ tally (length w₀) (units_of (split s)) no_units) × ((t ≡ take_units (length w₀) (units_of (split s)) t₀) × (w ≡ work_units (units_of (split s)) w₀))
   unfolding take_units work_units tally
-  finish f =
-      let l : left s i ≡ [] = ap units_of f.is in
+  finish (Ok (Some u)) f n = absurd (n u refl)
+  finish (Ok None) f n =
+      let l : left s i ≡ [] = ap units_of f in
       (rw l at S.counts, (rw l at S.table, rw l at S.work))
-
-  -- a split that holds is not refused later on
-  pub not-refused : {A : Type 0} → Follows s i Next.Refused → A
-  not-refused f = absurd (false≢true (sym (ap splits f.is) ∙ S.holds))
+  finish (Err e) f n = absurd (false≢true (sym (ap splits f.1) ∙ S.holds))

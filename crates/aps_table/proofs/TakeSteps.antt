@@ -7,20 +7,24 @@ use Prim.Native.Nat.{ℕ, ◌+◌, ◌/◌, ◌≤◌}
 use native.Mathlib.Omega.{arith}
 use lib.Dec.{leb}
 use lib.ListN.{length, get_or, take, drop, length-append}
-use lib.Seq.{sets, take-append-le, length-take-le}
+use lib.Seq.{sets, take-append-le}
 use Rattle.bitstream.specs.Outcome.{value, refused}
 use Rattle.aps.specs.ApsSyntax.{number_of}
 use Rattle.aps.specs.Rbsp.{read_rbsp}
 use Rattle.aps.specs.Unit.{is_aps, rbsp_of, admitted, parse_aps, work_after}
+use Rattle.aps.specs.Kinds.{largest_id, most_bytes}
+use Rattle.aps.specs.Reading.{head_of}
+use Rattle.aps.specs.declared.aps.ApsHead.{ApsHead}
 use Rattle.aps.specs.declared.aps.VvcAps.{VvcAps}
 use Rattle.aps.proofs.CodecLaws.{then-value, and_left, and_right}
-use Rattle.aps.proofs.RbspLaws.{rbsp-end}
+use Rattle.aps.proofs.RbspLaws.{rbsp-end, read-most}
 use Rattle.aps.proofs.UnitSteps.{unit-refused}
-use Rattle.aps_table.specs.Places.{place_at, table_bytes, kind_in, id_in}
+use Rattle.aps_table.specs.Places.{place_at, kind_in, id_in}
 use Rattle.aps_table.specs.Taking.{Verdict, accept, pass, refuse, is_passed, verdict, take_unit, count}
 use Rattle.aps_table.specs.Calls.{accepted, passed, refusal, single}
 use Rattle.aps_table.specs.declared.table.Counts.{Counts}
-use Rattle.aps_table.proofs.StoreLaws.{read-inside}
+use Rattle.aps_table.proofs.PlaceSteps.{place-within}
+use Rattle.aps_table.proofs.StoreLaws.{read_names, read_fits}
 
 -- ---- counted
 
@@ -85,14 +89,10 @@ module _ (u w : List ℕ) (a : VvcAps) (q : ℕ) (e : parse_aps u (length w) ≡
   read-within : (q + 7) / 8 ≤ length (rbsp_of u)
   read-within = omega (arith, rbsp-end (rbsp_of u) a q unit-set.0)
 
-  -- and within its place
-  read_fits : place_at (number_of a.kind) a.aps_adaptation_parameter_set_id + (q + 7) / 8 ≤ table_bytes
-  unfolding kind_in id_in
-  read_fits = read-inside (rbsp_of u) a q unit-set.0
-
-  -- so they are few
+  -- they are few
   pub read-few : q + 7 ≤ 300000
-  read-few = omega (arith, read_fits)
+  unfolding kind_in
+  read-few = omega (arith, read-most (rbsp_of u) a q unit-set.0, (place-within (kind_in a) (id_in a) (read_names (rbsp_of u) a q unit-set.0)).1)
 
   module _ (v : List ℕ) (f : v ≡ work_after u w) where
     -- they are in the work buffer
@@ -103,18 +103,21 @@ module _ (u w : List ℕ) (a : VvcAps) (q : ℕ) (e : parse_aps u (length w) ≡
     bytes_read : take ((q + 7) / 8) v ≡ take ((q + 7) / 8) (rbsp_of u)
     bytes_read = rw (f, unit-set.1) (take-append-le ((q + 7) / 8) (rbsp_of u) (drop (length (rbsp_of u)) w) read-within)
 
-    module _ (k i : ℕ) (g : k ≡ number_of a.kind) (h : i ≡ place_at k a.aps_adaptation_parameter_set_id) where
-      -- the place is the set's own
-      at_place : i ≡ place_at (number_of a.kind) a.aps_adaptation_parameter_set_id
-      at_place = h ∙ ap (λ (k : ℕ). place_at k a.aps_adaptation_parameter_set_id) g
+    module _ (h : ApsHead) (g : h ≡ head_of a) where
+      -- the head names a place
+      pub head-named : h.aps_adaptation_parameter_set_id ≤ largest_id (number_of h.kind)
+      unfolding kind_in id_in
+      head-named = rw g (read_names (rbsp_of u) a q unit-set.0).1
 
-      -- there is room for them from their place on
-      pub bytes_fit : i + length (take ((q + 7) / 8) v) ≤ table_bytes
-      bytes_fit = omega (arith, length-take-le ((q + 7) / 8) v bytes-within, at_place, read_fits)
+      -- they fit there
+      pub bytes_fit : length (take ((q + 7) / 8) v) ≤ most_bytes (number_of h.kind)
+      unfolding kind_in
+      bytes_fit = rw (g, bytes_read) (read_fits (rbsp_of u) a q unit-set.0)
 
       -- an accepted unit replaces its place
-      pub stores : (t : List ℕ) → is_passed u ≡ false → (accepted ≡ single (verdict u (length w))) × (sets t i (take ((q + 7) / 8) v) ≡ take_unit (length w) u t)
+      pub stores : (t : List ℕ) → is_passed u ≡ false
+          → (accepted ≡ single (verdict u (length w))) × (sets t (place_at (number_of h.kind) h.aps_adaptation_parameter_set_id) (take ((q + 7) / 8) v) ≡ take_unit (length w) u t)
       unfolding take_unit kind_in id_in
       stores t p =
           let y = accepts u w t p a q e in
-          (sym (ap single y), rw (y, bytes_read) (ap (λ (i : ℕ). sets t i (take ((q + 7) / 8) (rbsp_of u))) at_place))
+          (sym (ap single y), rw (y, g, bytes_read))

@@ -1,34 +1,34 @@
 -- Document 01's number and values for each answer of the calls.
+use Rattle.std.specs.Prelude.{ℕ, Result, Ok, Err}
 use Rattle.bitstream.specs.Outcome.{number}
+use Rattle.bitstream.specs.declared.Refusal.{Refusal}
+use Rattle.aps.specs.declared.aps.ApsHead.{ApsHead}
 use Rattle.aps.specs.declared.aps.VvcAps.{VvcAps}
-use Rattle.aps.specs.ApsSyntax.{empty_set}
+use Rattle.aps.specs.Reading.{head_of}
 use Rattle.aps_table.specs.Places.{Looked, found, missing}
 use Rattle.aps_table.specs.Calls.{Answer, counted, accepted, passed, refusal}
-use Rattle.aps_table.specs.declared.table.UnitAnswer.{UnitAnswer}
-use Rattle.aps_table.specs.declared.table.UnitAnswer.TheVariants as Unit
-use Rattle.aps_table.specs.declared.table.StreamAnswer.{StreamAnswer}
-use Rattle.aps_table.specs.declared.table.StreamAnswer.TheVariants as Stream
-use Rattle.aps_table.specs.declared.table.LookupOutcome.{LookupOutcome}
-use Rattle.aps_table.specs.declared.table.LookupOutcome.TheVariants as Lookup
-use Rattle.aps_table.specs.declared.table.LookupAnswer.{LookupAnswer}
+use Rattle.aps_table.specs.declared.table.Counts.{Counts}
+use Rattle.aps_table.specs.declared.table.Taken.{Taken}
+use Rattle.aps_table.specs.declared.table.Taken.TheVariants as Unit
 
-abbrev pub unit_answer : UnitAnswer → Answer
-unit_answer Unit.Accepted = accepted
-unit_answer Unit.Passed = passed
-unit_answer (Unit.Refused e) = refusal (number e)
+abbrev pub unit_answer : Result Taken Refusal → Answer
+unit_answer (Ok Unit.Accepted) = accepted
+unit_answer (Ok Unit.Passed) = passed
+unit_answer (Err e) = refusal (number e)
 
-abbrev pub stream_answer : StreamAnswer → Answer
-stream_answer (Stream.Counted c) = counted c
-stream_answer (Stream.Refused e) = refusal (number e)
+abbrev pub stream_answer : Result Counts Refusal → Answer
+stream_answer (Ok c) = counted c
+stream_answer (Err e) = refusal (number e)
 
-abbrev pub lookup_says : LookupOutcome → VvcAps → Looked
-lookup_says Lookup.Found a = found a
-lookup_says (Lookup.Refused e) a = missing (number e)
+abbrev pub lookup_answer : Result VvcAps Refusal → Looked
+lookup_answer (Ok a) = found a
+lookup_answer (Err e) = missing (number e)
 
-abbrev pub lookup_answer : LookupAnswer → Looked
-lookup_answer l = lookup_says l.outcome l.set
+-- of a lookup's answer the head of the set, or the refusal's number
+abbrev pub head_looked : Looked → Result ApsHead ℕ
+head_looked (found a) = Ok (head_of a)
+head_looked (missing n) = Err n
 
--- the set given with a lookup's answer: a refusal's is the empty set
-abbrev pub set_looked : Looked → VvcAps
-set_looked (found a) = a
-set_looked (missing n) = empty_set
+abbrev pub head_answer : Result ApsHead Refusal → Result ApsHead ℕ
+head_answer (Ok h) = Ok h
+head_answer (Err e) = Err (number e)

@@ -1,10 +1,11 @@
 -- For the proofs' sake: what the inner functions promise each other on the way. No public contract says anything of this file.
 use Rattle.bitstream.specs.declared.Refusal.{Refusal}
-use Rattle.std.specs.Prelude.{ℕ, ◌+◌, ◌-◌, ◌*◌, ◌/◌, ◌≤◌, ◌<◌, ◌≡◌, Bool, true, false, List, [], length, get_or, take, drop, Result, Ok, Err}
+use Rattle.bitstream.specs.declared.Refusal.TheVariants.{InvalidData}
+use Rattle.std.specs.Prelude.{ℕ, ◌+◌, ◌-◌, ◌*◌, ◌/◌, ◌≤◌, ◌<◌, ◌≡◌, Bool, true, false, List, [], length, get_or, take, drop, Option, None, Some, Result, Ok, Err}
 use Rattle.std.proofs.Math.Option.{none, some}
 use Rattle.bitstream.specs.Outcome.{Outcome, value, refused, number}
 use Rattle.aps.specs.Kinds.{largest_id, most_bytes}
-use Rattle.aps_table.specs.declared.split.Next.{Next}
+use Rattle.aps_table.specs.declared.split.Unit.{Unit as Bounds}
 use Rattle.aps_table.specs.declared.split.Scan.{Scan}
 use Rattle.aps_table.specs.Split.{Units, prepend, ended, gap, body}
 use Rattle.aps_table.specs.Places.{offset}
@@ -39,24 +40,27 @@ abbrev pub Scanned : List ℕ → ℕ → Scan → Type 0
 Scanned s e (Scan.On r) = (e < r) × InUnit s e r
 Scanned s e (Scan.End r) = UnitEnd s e r
 
+-- a unit stands at places a to e, the first from place i on
+pub record UnitAt (s : List ℕ) (i a e : ℕ) : Type 0 where
+  pub after : i < a
+  pub from : a ≤ e
+  pub to : e ≤ length s
+  pub is : gap 0 (drop i s) ≡ prepend (between s a e) (ended (gap 0 (drop e s)))
+
 -- the split from a place on, by what stands there
-abbrev pub follow : List ℕ → Next → Units
-follow s (Next.Unit a e) = prepend (between s a e) (ended (gap 0 (drop e s)))
-follow s Next.End = some []
-follow s Next.Refused = none
-
-abbrev pub After : List ℕ → ℕ → Next → Type 0
-After s i (Next.Unit a e) = (i < a) × (a ≤ e) × (e ≤ length s)
-After s i Next.End = Unit {0}
-After s i Next.Refused = Unit {0}
-
-pub record Follows (s : List ℕ) (i : ℕ) (n : Next) : Type 0 where
-  pub is : gap 0 (drop i s) ≡ follow s n
-  pub after : After s i n
+abbrev pub Follows : List ℕ → ℕ → Result (Option Bounds) Refusal → Type 0
+Follows s i (Ok (Some u)) = UnitAt s i u.start u.end
+Follows s i (Ok None) = gap 0 (drop i s) ≡ some []
+Follows s i (Err e) = (e ≡ InvalidData) × (gap 0 (drop i s) ≡ none)
 
 abbrev pub splits : Units → Bool
 splits none = false
 splits (some us) = true
+
+-- the split checked whole
+abbrev pub Checks : {A : Type 0} → Units → Result A Refusal → Type 0
+Checks r (Ok a) = splits r ≡ true
+Checks r (Err e) = (e ≡ InvalidData) × (splits r ≡ false)
 
 -- the units that are left from a place on
 abbrev pub units_of : Units → List (List ℕ)
@@ -70,19 +74,10 @@ abbrev pub up_to : Result ℕ Refusal → List ℕ → Outcome (List ℕ)
 up_to (Ok n) l = value (take n l) n
 up_to (Err e) l = refused (number e)
 
--- they are n or fewer
-abbrev pub AtMost : Result ℕ Refusal → ℕ → Type 0
-AtMost (Ok m) n = m ≤ n
-AtMost (Err e) n = Unit {0}
-
 -- the most bytes of a unit in the list: start code, header, and the RBSP with escapes put in
 abbrev pub most_listed : ℕ → ℕ
 most_listed k = 6 + most_bytes k * 3 / 2
 
--- the most bytes before the unit of a kind and id
-abbrev pub list_at : ℕ → ℕ → ℕ
-list_at k i = offset most_listed k i
-
 -- no list is longer
 abbrev pub list_bytes : ℕ
-list_bytes = list_at 2 (largest_id 2 + 1)
+list_bytes = offset most_listed 2 (largest_id 2 + 1)

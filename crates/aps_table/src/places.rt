@@ -1,9 +1,9 @@
 // The 20 places of the table, and the bytes of each in the memory that the caller lends.
-ghost use Rattle.std.specs.Prelude.{◌≡◌, ◌+◌, ◌≤◌, ◌&&◌, eqb, length};
+ghost use Rattle.std.specs.Prelude.{◌≡◌, ◌+◌, ◌≤◌, ◌<◌, ◌&&◌, false, ◌∷◌, drop, eqb, length, IfSome, IfNone};
 ghost use Rattle.std.proofs.lemmas.List.Edits.{sets};
-ghost use Rattle.aps.specs.Kinds.{most_bytes};
+ghost use Rattle.aps.specs.Kinds.{largest_id, most_bytes};
 ghost use Rattle.aps.specs.ApsSyntax.{number_of};
-ghost use Rattle.aps_table.specs.Places.{named, place_at, table_bytes, new_table};
+ghost use Rattle.aps_table.specs.Places.{named, names, place_at, place_bytes, new_table};
 
 use aps::aps::{Alf, ApsKind, Lmcs, Scaling, number_of};
 
@@ -13,6 +13,8 @@ pub(crate) const ALF_PLACES: usize = Alf::MAX_ID as usize + 1;
 pub(crate) const LMCS_PLACES: usize = Lmcs::MAX_ID as usize + 1;
 
 pub(crate) const SCALING_PLACES: usize = Scaling::MAX_ID as usize + 1;
+
+pub(crate) const PLACES: usize = ALF_PLACES + LMCS_PLACES + SCALING_PLACES;
 
 // Each place has the most bytes that a set of its kind takes.
 pub const TABLE_BYTES: usize = ALF_PLACES * Alf::MAX_BYTES
@@ -29,66 +31,123 @@ pub fn new_table() -> Table
     [0u8; TABLE_BYTES]
 }
 
-// A kind and an id that name a place.
-pub(crate) fn is_named(kind: u8, id: u8) -> bool
-    ensures { result ≡ named kind id }
+// The kind of a number; none: no kind has it.
+fn kind_of(number: u8) -> Option<ApsKind>
+    ensures none { IfNone result (3 ≤ number) }
+    ensures some { IfSome result (λ kind. number_of kind ≡ number) }
 {
-    if kind == Alf::NUMBER {
-        return id <= Alf::MAX_ID;
+    match number {
+        Alf::NUMBER => Some(ApsKind::Alf),
+        Lmcs::NUMBER => Some(ApsKind::Lmcs),
+        Scaling::NUMBER => Some(ApsKind::Scaling),
+        _ => None,
     }
-    if kind == Lmcs::NUMBER {
-        return id <= Lmcs::MAX_ID;
-    }
-    if kind == Scaling::NUMBER {
-        return id <= Scaling::MAX_ID;
-    }
-    false
 }
 
-// A set of this kind and id stands in its own place.
-pub(crate) fn is_own(kind: ApsKind, id: u8, place_kind: u8, place_id: u8) -> bool
-    ensures { result ≡ (eqb (number_of kind) place_kind && eqb id place_id) }
+fn max_id(kind: ApsKind) -> u8
+    ensures { result ≡ largest_id (number_of kind) }
 {
-    if number_of(kind) != place_kind {
-        return false;
+    match kind {
+        ApsKind::Alf => Alf::MAX_ID,
+        ApsKind::Lmcs => Lmcs::MAX_ID,
+        ApsKind::Scaling => Scaling::MAX_ID,
     }
-    id == place_id
 }
 
-pub(crate) fn place_size(kind: u8) -> usize
-    ensures { result ≡ most_bytes kind }
-{
-    if kind == Alf::NUMBER {
-        return Alf::MAX_BYTES;
-    }
-    if kind == Lmcs::NUMBER {
-        return Lmcs::MAX_BYTES;
-    }
-    Scaling::MAX_BYTES
+// A place of the table: an id of its kind.
+#[derive(Clone, Copy)]
+pub(crate) struct Place {
+    pub(crate) kind: ApsKind,
+    pub(crate) id: u8,
+    ghost named: { id ≤ largest_id (number_of kind) },
 }
 
-// Where a place begins.
-pub(crate) fn place_at(kind: u8, id: u8) -> usize
-    ensures { result ≡ place_at kind id }
-{
-    let i = id as usize;
-    if kind == Alf::NUMBER {
-        return i * Alf::MAX_BYTES;
+impl Place {
+    // The place of a kind's number and an id; none: they name no place.
+    pub(crate) fn new(kind: u8, id: u8) -> Option<Self>
+        ensures none { IfNone result (named kind id ≡ false) }
+        ensures some { IfSome result (λ place. (number_of place.kind ≡ kind) × (place.id ≡ id)) }
+    {
+        let kind = kind_of(kind)?;
+        if id <= max_id(kind) {
+            Some(Place { kind, id })
+        } else {
+            None
+        }
     }
-    if kind == Lmcs::NUMBER {
-        return ALF_PLACES * Alf::MAX_BYTES + i * Lmcs::MAX_BYTES;
-    }
-    ALF_PLACES * Alf::MAX_BYTES + LMCS_PLACES * Lmcs::MAX_BYTES + i * Scaling::MAX_BYTES
-}
 
-// Bytes put into the table; the rest stays.
-pub(crate) fn store(table: &mut Table, at: usize, bytes: &[u8])
-    requires { at + length bytes.now ≤ table_bytes }
-    ensures { table.new ≡ sets table.old at bytes.now }
-{
-    let mut i: usize = 0;
-    while i < bytes.len() {
-        table[at + i] = bytes[i];
-        i += 1;
+    // The 20 places in order: kind rising, then id rising.
+    pub(crate) fn nth(index: usize) -> Self
+        requires { index < PLACES }
+        ensures { drop index names ≡ (number_of result.kind, result.id) ∷ drop (index + 1) names }
+    {
+        if index < ALF_PLACES {
+            let id = index as u8;
+            return Place {
+                kind: ApsKind::Alf,
+                id,
+            };
+        }
+        if index < ALF_PLACES + LMCS_PLACES {
+            let id = (index - ALF_PLACES) as u8;
+            return Place {
+                kind: ApsKind::Lmcs,
+                id,
+            };
+        }
+        let id = (index - ALF_PLACES - LMCS_PLACES) as u8;
+        Place {
+            kind: ApsKind::Scaling,
+            id,
+        }
+    }
+
+    // A set of this kind and id is the place's own.
+    pub(crate) fn is_of(self, kind: ApsKind, id: u8) -> bool
+        ensures { result ≡ (eqb (number_of kind) (number_of self.kind) && eqb id self.id) }
+    {
+        number_of(kind) == number_of(self.kind) && id == self.id
+    }
+
+    // The most bytes that a set of its kind takes.
+    fn size(self) -> usize
+        ensures { result ≡ most_bytes (number_of self.kind) }
+    {
+        match self.kind {
+            ApsKind::Alf => Alf::MAX_BYTES,
+            ApsKind::Lmcs => Lmcs::MAX_BYTES,
+            ApsKind::Scaling => Scaling::MAX_BYTES,
+        }
+    }
+
+    // Where it begins.
+    pub(crate) fn at(self) -> usize
+        ensures { result ≡ place_at (number_of self.kind) self.id }
+    {
+        let i = self.id as usize;
+        match self.kind {
+            ApsKind::Alf => i * Alf::MAX_BYTES,
+            ApsKind::Lmcs => ALF_PLACES * Alf::MAX_BYTES + i * Lmcs::MAX_BYTES,
+            ApsKind::Scaling => {
+                ALF_PLACES * Alf::MAX_BYTES + LMCS_PLACES * Lmcs::MAX_BYTES + i * Scaling::MAX_BYTES
+            }
+        }
+    }
+
+    // Its bytes.
+    pub(crate) fn bytes(self, table: &Table) -> &[u8]
+        ensures { result.now ≡ place_bytes table.now (number_of self.kind) self.id }
+    {
+        let at = self.at();
+        &table[at..at + self.size()]
+    }
+
+    // An RBSP put at its start; the rest stays.
+    pub(crate) fn store(self, table: &mut Table, rbsp: &[u8])
+        requires { length rbsp.now ≤ most_bytes (number_of self.kind) }
+        ensures { table.new ≡ sets table.old (place_at (number_of self.kind) self.id) rbsp.now }
+    {
+        let at = self.at();
+        table[at..at + rbsp.len()].copy_from_slice(rbsp);
     }
 }

@@ -1,7 +1,9 @@
 // The split of a stream into units, H.266 Annex B.
 ghost use Rattle.std.specs.Prelude.{◌≡◌, ◌+◌, ◌≤◌, length};
 ghost use Rattle.aps_table.specs.Split.{split};
-ghost use Rattle.aps_table.specs.Inner.{Skipped, UnitEnd, Scanned, Follows, splits};
+ghost use Rattle.aps_table.specs.Inner.{Skipped, UnitEnd, Scanned, Follows, Checks};
+
+use bitstream::Refusal;
 
 // The first place from `from` on that holds no zero byte, or the end.
 fn skip_zeros(s: &[u8], from: usize) -> usize
@@ -81,50 +83,41 @@ fn unit_end(s: &[u8], start: usize) -> usize
     }
 }
 
-// What stands from a place on, outside of a unit: a unit, the end, or a byte that may not stand there.
+// Where a unit of the stream starts and ends.
 #[derive(Clone, Copy)]
-pub(crate) enum Next {
-    Unit { start: usize, end: usize },
-    End,
-    Refused,
+pub(crate) struct Unit {
+    pub(crate) start: usize,
+    pub(crate) end: usize,
 }
 
-pub(crate) fn next_unit(s: &[u8], from: usize) -> Next
+// What stands from a place on, outside of a unit: a unit, or the end. 2: a byte that may not stand there.
+pub(crate) fn next_unit(s: &[u8], from: usize) -> Result<Option<Unit>, Refusal>
     requires { (from ≤ length s.now) × (length s.now ≤ 65536) }
     ensures { Follows s.now from result }
 {
     let i = skip_zeros(s, from);
     if i == s.len() {
-        return Next::End;
+        return Ok(None);
     }
     if s[i] != 1 {
-        return Next::Refused;
+        return Err(Refusal::InvalidData);
     }
     if i - from < 2 {
-        return Next::Refused;
+        return Err(Refusal::InvalidData);
     }
     let start = i + 1;
     let end = unit_end(s, start);
-    Next::Unit { start, end }
+    Ok(Some(Unit { start, end }))
 }
 
-// The split checked whole: false where it is refused.
-pub(crate) fn split_holds(s: &[u8]) -> bool
+// The split checked whole: 2 where it is refused.
+pub(crate) fn check_split(s: &[u8]) -> Result<(), Refusal>
     requires { length s.now ≤ 65536 }
-    ensures { result ≡ splits (split s.now) }
+    ensures { Checks (split s.now) result }
 {
     let mut at = 0;
-    loop {
-        match next_unit(s, at) {
-            Next::Unit { start: _, end } => {
-                at = end;
-            }
-            Next::End => {
-                return true;
-            }
-            Next::Refused => {
-                return false;
-            }
-        }
+    while let Some(unit) = next_unit(s, at)? {
+        at = unit.end;
     }
+    Ok(())
 }

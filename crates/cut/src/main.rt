@@ -3,7 +3,7 @@
 
 use aps_table::list::{LIST_BYTES, write_list};
 use aps_table::places::new_table;
-use aps_table::table::{StreamAnswer, take_stream};
+use aps_table::table::take_stream;
 use bitstream::Refusal;
 
 fn refused(why: Refusal) {
@@ -32,10 +32,10 @@ fn main() {
     let mut table = new_table();
     let mut out = [0u8; LIST_BYTES];
     match take_stream(&mut table, &input[..n], &mut work) {
-        StreamAnswer::Counted(_) => {
+        Ok(_) => {
             let size = write_list(&table, &mut out);
             put(size, &out);
         }
-        StreamAnswer::Refused(why) => refused(why),
+        Err(why) => refused(why),
     }
 }

@@ -7,7 +7,7 @@ ghost use Rattle.sets_text.specs.Refused.{refused_with};
 
 use aps::aps::{Alf, ApsHead, Lmcs, Scaling};
 use aps_table::places::{Table, new_table};
-use aps_table::table::{LookupOutcome, StreamAnswer, lookup_head, take_stream};
+use aps_table::table::{lookup_head, take_stream};
 
 fn text(s: &[u8]) {
     io::write_all(1, s);
@@ -32,21 +32,14 @@ fn print_set(kind: u8, id: u8, head: ApsHead) {
 }
 
 fn print_place(table: &Table, kind: u8, id: u8) {
-    let found = lookup_head(table, kind, id);
-    let outcome = found.outcome;
-    match outcome {
-        LookupOutcome::Found => print_set(kind, id, found.head),
-        LookupOutcome::Refused(_) => {}
+    if let Ok(head) = lookup_head(table, kind, id) {
+        print_set(kind, id, head);
     }
 }
 
-fn print_kind(table: &Table, kind: u8, max_id: u8)
-    requires { max_id < 255 }
-{
-    let mut id = 0;
-    while id <= max_id {
+fn print_kind(table: &Table, kind: u8, max_id: u8) {
+    for id in 0..=max_id {
         print_place(table, kind, id);
-        id += 1;
     }
 }
 
@@ -57,14 +50,14 @@ pub fn print_sets(bytes: &[u8]) -> u32
     let mut work = io::large_buffer();
     let mut table = new_table();
     match take_stream(&mut table, bytes, &mut work) {
-        StreamAnswer::Counted(_) => {
+        Ok(_) => {
             text(b"kind id chroma ext\n");
             print_kind(&table, Alf::NUMBER, Alf::MAX_ID);
             print_kind(&table, Lmcs::NUMBER, Lmcs::MAX_ID);
             print_kind(&table, Scaling::NUMBER, Scaling::MAX_ID);
             0
         }
-        StreamAnswer::Refused(why) => {
+        Err(why) => {
             let n = u32::from(why);
             text(b"refused ");
             io::print_decimal(1, n as u64);

@@ -4,18 +4,18 @@ use Rattle.aps_table.specs.Answers.{stream_answer}
 use Rattle.aps_c.specs.TableCodes.{answer_code, counts_left}
 use Rattle.aps_c.proofs.table.aps_take_stream.Goals as goal
 
-pub returns-in-Counted : goal.returns-in-Counted
+pub returns-in-Ok : goal.returns-in-Ok
 unfolding answer_code counts_left
-returns-in-Counted c =
+returns-in-Ok c =
     let a = c.args in
     let e = c.take_stream.ensures in
-    let o = sym (ap stream_answer c.in-Counted.is) ∙ e.answer in
+    let o = sym (ap stream_answer c.in-Ok.is) ∙ e.answer in
     record { code = ap answer_code o; counts = c.put_counts.ensures ∙ ap (λ x. counts_left x a.counts.now) o; table = e.table; work = e.work }
 
-pub returns-in-Refused : goal.returns-in-Refused
+pub returns-in-Err : goal.returns-in-Err
 unfolding answer_code counts_left
-returns-in-Refused c =
+returns-in-Err c =
     let a = c.args in
     let e = c.take_stream.ensures in
-    let o = sym (ap stream_answer c.in-Refused.is) ∙ e.answer in
+    let o = sym (ap stream_answer c.in-Err.is) ∙ e.answer in
     record { code = c.into.ensures ∙ ap answer_code o; counts = ap (λ x. counts_left x a.counts.now) o; table = e.table; work = e.work }

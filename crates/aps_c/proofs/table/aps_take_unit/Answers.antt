@@ -1,23 +1,26 @@
 -- `aps_take_unit`: the library's answer by its cases.
-use mathlib.Core.Path.{◌∙◌, ap, sym}
+use Rattle.std.proofs.Common.{rules}
+use Rattle.std.specs.Prelude.{Ok}
+use mathlib.Core.Path.{◌≡◌, ◌∙◌, ap, sym}
 use Rattle.aps_table.specs.Answers.{unit_answer}
+use Rattle.aps_table.specs.declared.table.Taken.TheVariants as Unit
 use Rattle.aps_c.specs.TableCodes.{answer_code}
 use Rattle.aps_c.proofs.table.aps_take_unit.Goals as goal
 
-pub returns-in-Accepted : goal.returns-in-Accepted
+pub returns-in-Ok-Accepted-clause-code : goal.returns-in-Ok-Accepted-clause-code
 unfolding answer_code
-returns-in-Accepted c =
-    let t = c.take_unit.ensures in
-    record { code = ap answer_code (sym (ap unit_answer c.in-Accepted.is) ∙ t.answer); table = t.table; work = t.work }
+returns-in-Ok-Accepted-clause-code c =
+    let e : c.take_unit.result ≡ Ok Unit.Accepted = search rules in
+    ap answer_code (sym (ap unit_answer e) ∙ c.take_unit.ensures.answer)
 
-pub returns-in-Passed : goal.returns-in-Passed
+pub returns-in-Ok-Passed-clause-code : goal.returns-in-Ok-Passed-clause-code
 unfolding answer_code
-returns-in-Passed c =
-    let t = c.take_unit.ensures in
-    record { code = ap answer_code (sym (ap unit_answer c.in-Passed.is) ∙ t.answer); table = t.table; work = t.work }
+returns-in-Ok-Passed-clause-code c =
+    let e : c.take_unit.result ≡ Ok Unit.Passed = search rules in
+    ap answer_code (sym (ap unit_answer e) ∙ c.take_unit.ensures.answer)
 
-pub returns-in-Refused : goal.returns-in-Refused
+pub returns-in-Err : goal.returns-in-Err
 unfolding answer_code
-returns-in-Refused c =
+returns-in-Err c =
     let t = c.take_unit.ensures in
-    record { code = c.into.ensures ∙ ap answer_code (sym (ap unit_answer c.in-Refused.is) ∙ t.answer); table = t.table; work = t.work }
+    record { code = c.into.ensures ∙ ap answer_code (sym (ap unit_answer c.in-Err.is) ∙ t.answer); table = t.table; work = t.work }

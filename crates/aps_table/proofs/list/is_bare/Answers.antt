@@ -1,16 +1,17 @@
--- `is_bare`: the three kinds one after another.
+-- `is_bare`: of the places before `index` none has a set.
+use native.Mathlib.Omega.{arith}
 use mathlib.Core.Path.{sym, ◌∙◌}
 use Rattle.aps_table.specs.Places.{held}
-use Rattle.aps_table.proofs.BareLaws.{bare-first, bare-second, bare-third}
+use Rattle.aps_table.proofs.BareLaws.{bare-held, bare-next, bare-done}
 use Rattle.aps_table.proofs.list.is_bare.Goals as goal
 
-pub returns-then-not-is_bare_kind : goal.returns-then-not-is_bare_kind
-returns-then-not-is_bare_kind c = bare-first (held c.args.table.now) (sym c.is_bare_kind.ensures ∙ c.if-not-is_bare_kind.true)
+pub returns-then-is_held : goal.returns-then-is_held
+returns-then-is_held c =
+    bare-held (held c.args.table.now) _ _ _ _ c.loop-index.invariant c.nth.ensures (sym c.is_held.ensures ∙ c.if-is_held.true)
 
-pub returns-then-not-is_bare_kind-2 : goal.returns-then-not-is_bare_kind-2
-returns-then-not-is_bare_kind-2 c = bare-second (held c.args.table.now) (sym c.is_bare_kind-2.ensures ∙ c.if-not-is_bare_kind-2.true)
+pub loop-index-preserved : goal.loop-index-preserved
+loop-index-preserved c =
+    bare-next (held c.args.table.now) _ _ _ _ c.loop-index.invariant c.nth.ensures (sym c.is_held.ensures ∙ c.if-is_held.false)
 
 pub returns : goal.returns
-returns c =
-    c.is_bare_kind-3.ensures
-    ∙ bare-third (held c.args.table.now) (sym c.is_bare_kind.ensures ∙ c.if-not-is_bare_kind.false) (sym c.is_bare_kind-2.ensures ∙ c.if-not-is_bare_kind-2.false)
+returns c = bare-done (held c.args.table.now) c.loop-index.index c.loop-index.invariant (omega arith)

@@ -1,27 +1,29 @@
 -- `next_unit`: after the zero bytes the end, a byte that may not stand there, or a unit.
-use mathlib.Core.Path.{◌∙◌}
+use mathlib.Core.Path.{refl, ◌∙◌}
 use native.Mathlib.Omega.{arith}
 use Rattle.aps_table.proofs.SplitTurns.{next-end, next-other, next-few, next-starts}
 use Rattle.aps_table.proofs.split.next_unit.Goals as goal
 
 pub returns-then-i-s : goal.returns-then-i-s
-returns-then-i-s c = record { is = next-end _ _ _ c.skip_zeros-i.ensures c.if-i-s.true; after = tt }
+returns-then-i-s c = next-end _ _ _ c.skip_zeros-i.ensures c.if-i-s.true
 
 pub returns-then-s-i-ne1 : goal.returns-then-s-i-ne1
 returns-then-s-i-ne1 c =
     let k = c.skip_zeros-i.ensures in
-    record { is = next-other _ _ _ k (omega (arith, k.to, c.if-i-s.false)) c.if-s-i-ne1.true; after = tt }
+    (refl, next-other _ _ _ k (omega (arith, k.to, c.if-i-s.false)) c.if-s-i-ne1.true)
 
 pub returns-then-i-from-lt2 : goal.returns-then-i-from-lt2
 returns-then-i-from-lt2 c =
     let k = c.skip_zeros-i.ensures in
-    record { is = next-few _ _ _ k (omega (arith, k.to, c.if-i-s.false)) c.if-s-i-ne1.false (omega (arith, c.if-i-from-lt2.true)); after = tt }
+    (refl, next-few _ _ _ k (omega (arith, k.to, c.if-i-s.false)) c.if-s-i-ne1.false (omega (arith, c.if-i-from-lt2.true)))
 
 pub returns : goal.returns
 returns c =
     let k = c.skip_zeros-i.ensures in
     let u = c.unit_end-end.ensures in
     record {
+      after = omega (arith, k.from);
+      from = u.from;
+      to = u.to;
       is = next-starts _ _ _ k (omega (arith, k.to, c.if-i-s.false)) c.if-s-i-ne1.false (omega (arith, c.if-i-from-lt2.false)) ∙ u.ends;
-      after = (omega (arith, k.from), u.from, u.to);
     }

@@ -1,47 +1,50 @@
 -- `head_held`: what the bytes of the place are read as, then whether the set is its own.
-use mathlib.Core.Path.{◌≡◌, ap, ◌∙◌}
-use mathlib.Core.Bool.{◌&&◌}
+use Rattle.std.specs.Prelude.{Ok}
+use mathlib.Core.Path.{◌≡◌, sym, ap, ◌∙◌}
+use mathlib.Core.Bool.{not, ◌&&◌}
+use mathlib.Core.Option.{Option}
 use lib.Dec.{eqb}
-use Rattle.bitstream.specs.Outcome.{Outcome}
 use Rattle.aps.specs.ApsSyntax.{number_of}
-use Rattle.aps.specs.Rbsp.{read_rbsp}
-use Rattle.aps.specs.Reading.{outcome_read, set_given}
+use Rattle.aps.specs.Rbsp.{parse_aps_rbsp}
+use Rattle.aps.specs.Reading.{set_given}
 use Rattle.aps.specs.declared.aps.ApsHead.{ApsHead}
-use Rattle.aps.specs.declared.aps.ApsOutcome.{ApsOutcome}
 use Rattle.aps.specs.declared.aps.VvcAps.{VvcAps}
-use Rattle.aps.proofs.Answers.{answered}
-use Rattle.aps_table.specs.Places.{place_bytes, found_in, under, held}
-use Rattle.aps_table.proofs.PlaceSteps.{head-missing, head-found, under-other, under-own}
-use mathlib.Core.Bool.{not}
+use Rattle.aps_table.specs.Places.{found_in, under}
+use Rattle.aps_table.specs.Answers.{head_looked}
+use Rattle.aps_table.proofs.PlaceSteps.{names-of, place-few, held-read, under-other, under-own}
+use Rattle.aps_table.proofs.HeldSteps.{read_as}
 use Rattle.aps_table.proofs.table.head_held.Goals as goal
-use Rattle.aps_table.proofs.table.head_held.Goals.{After-is_own}
+use Rattle.aps_table.proofs.table.head_held.Goals.{After-is_of}
 
 -- whether it is the place's own
-own : (c : After-is_own) → let a = set_given (read_rbsp (place_bytes c.args.table.now c.args.kind c.args.id)) in c.is_own.result ≡ (eqb (number_of a.kind) c.args.kind && eqb a.aps_adaptation_parameter_set_id c.args.id)
+own : (c : After-is_of) → let a = set_given (parse_aps_rbsp c.bytes.result.now) in let p = c.args.place in c.is_of.result ≡ (eqb (number_of a.kind) (number_of p.kind) && eqb a.aps_adaptation_parameter_set_id p.id)
 own c =
-    let b = c.args in
-    c.is_own.ensures ∙ ap (λ (h : ApsHead). eqb (number_of h.kind) b.kind && eqb h.aps_adaptation_parameter_set_id b.id) c.read_place_head-reading.ensures.head
+    let p = c.args.place in
+    c.is_of.ensures ∙ ap (λ (h : ApsHead). eqb (number_of h.kind) (number_of p.kind) && eqb h.aps_adaptation_parameter_set_id p.id) c.parse_aps_head-reading.ensures.head
 
-pub returns-then-not-is_own : goal.returns-then-not-is_own
-unfolding held
-returns-then-not-is_own c =
-    let b = c.args in
-    let a = set_given (read_rbsp (place_bytes b.table.now b.kind b.id)) in
-    let e = answered (λ (o : ApsOutcome). outcome_read o a) c.in-Read.is c.read_place_head-reading.ensures.answer in
-    let r = head-missing c.no_head.result _ c.no_head.ensures (ap found_in (under-other b.kind b.id a e (own (goal.at.returns-then-not-is_own c).After-is_own) (ap not c.if-not-is_own.true))) in record { answer = r.0; head = r.1 }
+pub returns-then-not-is_of : goal.returns-then-not-is_of
+returns-then-not-is_of c =
+    let p = c.args.place in
+    let k = number_of p.kind in
+    let b = c.bytes.ensures in
+    let a = set_given (parse_aps_rbsp c.bytes.result.now) in
+    let e = read_as c.bytes.result.now a (place-few c.args.table.now _ k p.id (names-of p.kind p.id p.named) b).1 c.parse_aps_head-reading.ensures.answer c.in-Read.is in
+    sym (ap (λ (o : Option VvcAps). head_looked (found_in o)) (held-read c.args.table.now _ k p.id b ∙ under-other k p.id a e (own (goal.at.returns-then-not-is_of c).After-is_of) (ap not c.if-not-is_of.true)))
 
-pub returns-else-not-is_own : goal.returns-else-not-is_own
-unfolding held
-returns-else-not-is_own c =
-    let b = c.args in
-    let a = set_given (read_rbsp (place_bytes b.table.now b.kind b.id)) in
-    let e = answered (λ (o : ApsOutcome). outcome_read o a) c.in-Read.is c.read_place_head-reading.ensures.answer in
-    let r = head-found c.read_place_head-reading.result.head a c.read_place_head-reading.ensures.head (ap found_in (under-own b.kind b.id a e (own (goal.at.returns-else-not-is_own c).After-is_own) (ap not c.if-not-is_own.false))) in record { answer = r.0; head = r.1 }
+pub returns-else-not-is_of : goal.returns-else-not-is_of
+returns-else-not-is_of c =
+    let p = c.args.place in
+    let k = number_of p.kind in
+    let b = c.bytes.ensures in
+    let a = set_given (parse_aps_rbsp c.bytes.result.now) in
+    let e = read_as c.bytes.result.now a (place-few c.args.table.now _ k p.id (names-of p.kind p.id p.named) b).1 c.parse_aps_head-reading.ensures.answer c.in-Read.is in
+    ap Ok c.parse_aps_head-reading.ensures.head ∙ sym (ap (λ (o : Option VvcAps). head_looked (found_in o)) (held-read c.args.table.now _ k p.id b ∙ under-own k p.id a e (own (goal.at.returns-else-not-is_of c).After-is_of) (ap not c.if-not-is_of.false)))
 
 pub returns-in-Refused : goal.returns-in-Refused
-unfolding held
 returns-in-Refused c =
-    let b = c.args in
-    let a = set_given (read_rbsp (place_bytes b.table.now b.kind b.id)) in
-    let e = answered (λ (o : ApsOutcome). outcome_read o a) c.in-Refused.is c.read_place_head-reading.ensures.answer in
-    let r = head-missing c.no_head-in-Refused.result _ c.no_head-in-Refused.ensures (ap (λ (o : Outcome VvcAps). found_in (under b.kind b.id o)) e) in record { answer = r.0; head = r.1 }
+    let p = c.args.place in
+    let k = number_of p.kind in
+    let b = c.bytes.ensures in
+    let a = set_given (parse_aps_rbsp c.bytes.result.now) in
+    let e = read_as c.bytes.result.now a (place-few c.args.table.now _ k p.id (names-of p.kind p.id p.named) b).1 c.parse_aps_head-reading.ensures.answer c.in-Refused.is in
+    sym (ap (λ (o : Option VvcAps). head_looked (found_in o)) (held-read c.args.table.now _ k p.id b ∙ ap (under k p.id) e))

@@ -1,19 +1,24 @@
 -- `lookup_head`: the place is named, or not.
-use mathlib.Core.Path.{sym, ◌∙◌}
-use Rattle.aps_table.proofs.PlaceSteps.{named-names, head_as, head-missing, looked-none, looked-held}
+use Rattle.std.specs.Prelude.{Err, Some, None}
+use mathlib.Core.Path.{◌≡◌, sym, ap, ◌∙◌}
+use native.Mathlib.Omega.{arith}
+use Rattle.bitstream.specs.declared.Refusal.TheVariants.{InvalidData}
+use Rattle.aps.specs.ApsSyntax.{number_of}
+use Rattle.aps_table.specs.Answers.{head_looked}
+use Rattle.aps_table.proofs.PlaceSteps.{names-of, looked-none, looked-held}
 use Rattle.aps_table.proofs.table.lookup_head.Goals as goal
 
-pub returns-then-not-is_named : goal.returns-then-not-is_named
-returns-then-not-is_named c =
-    let b = c.args in
-    let r = head-missing c.no_head.result _ c.no_head.ensures
-    (looked-none b.table.now b.kind b.id (sym c.is_named.ensures ∙ c.if-not-is_named.true)) in record { answer = r.0; head = r.1 }
-
-pub head_held-requires : goal.head_held-requires
-head_held-requires c = named-names c.args.kind c.args.id (sym c.is_named.ensures ∙ c.if-not-is_named.false)
+pub returns-in_err-ok_or : goal.returns-in_err-ok_or
+returns-in_err-ok_or c =
+    let n : c.new.result ≡ None = grind arith in
+    let e : c.from_residual.result ≡ Err InvalidData = grind arith in
+    let h = rw n at c.new.ensures.none in
+    rw e (sym (ap head_looked (looked-none c.args.table.now c.args.kind c.args.id h)))
 
 pub returns : goal.returns
 returns c =
-    let b = c.args in
-    let r = head_as c.head_held.result (c.head_held.ensures.answer, c.head_held.ensures.head)
-    (looked-held b.table.now b.kind b.id (sym c.is_named.ensures ∙ c.if-not-is_named.false)) in record { answer = r.0; head = r.1 }
+    let p = c.in_ok-ok_or.field-0 in
+    let n : c.new.result ≡ Some p = grind arith in
+    let h = rw n at c.new.ensures.some in
+    let t = c.args.table.now in
+    c.head_held.ensures ∙ rw (← h.0, ← h.1) (sym (ap head_looked (looked-held t (number_of p.kind) p.id (names-of p.kind p.id p.named))))

@@ -1,37 +1,35 @@
 -- `set_held`: what the bytes of the place are read as, then whether the set is its own.
-use mathlib.Core.Path.{sym, ap}
-use Rattle.bitstream.specs.Outcome.{Outcome}
-use Rattle.aps.specs.declared.aps.ApsOutcome.{ApsOutcome}
-use Rattle.aps.specs.declared.aps.VvcAps.{VvcAps}
-use Rattle.aps.specs.Reading.{outcome_read}
-use Rattle.aps.proofs.Answers.{answered}
-use Rattle.aps_table.specs.Places.{found_in, under, held}
-use Rattle.aps_table.specs.Answers.{set_looked}
-use Rattle.aps_table.proofs.PlaceSteps.{answer-as, under-other, under-own}
+use mathlib.Core.Path.{sym, ap, ◌∙◌}
 use mathlib.Core.Bool.{not}
+use Rattle.aps.specs.ApsSyntax.{number_of}
+use Rattle.aps_table.specs.Places.{found_in, under}
+use Rattle.aps_table.proofs.PlaceSteps.{names-of, place-few, held-read, under-other, under-own}
+use Rattle.aps_table.proofs.HeldSteps.{read_as}
 use Rattle.aps_table.proofs.table.set_held.Goals as goal
 
-pub returns-then-not-is_own : goal.returns-then-not-is_own
-unfolding held
-returns-then-not-is_own c =
-    let b = c.args in
-    let a = c.read_place-reading.result.set in
-    let e = answered (λ (o : ApsOutcome). outcome_read o a) c.in-Read.is c.read_place-reading.ensures in
-    let r = answer-as c.no_set.result c.no_set.ensures (ap found_in (under-other b.kind b.id a e c.is_own.ensures (ap not c.if-not-is_own.true))) in record { answer = r.0; set = r.1 }
+pub returns-then-not-is_of : goal.returns-then-not-is_of
+returns-then-not-is_of c =
+    let p = c.args.place in
+    let k = number_of p.kind in
+    let b = c.bytes.ensures in
+    let a = c.parse_aps_rbsp-reading.result.set in
+    let e = read_as c.bytes.result.now a (place-few c.args.table.now _ k p.id (names-of p.kind p.id p.named) b).1 c.parse_aps_rbsp-reading.ensures.answer c.in-Read.is in
+    sym (ap found_in (held-read c.args.table.now _ k p.id b ∙ under-other k p.id a e c.is_of.ensures (ap not c.if-not-is_of.true)))
 
-pub returns-else-not-is_own : goal.returns-else-not-is_own
-unfolding held
-returns-else-not-is_own c =
-    let b = c.args in
-    let a = c.read_place-reading.result.set in
-    let e = answered (λ (o : ApsOutcome). outcome_read o a) c.in-Read.is c.read_place-reading.ensures in
-    let f = ap found_in (under-own b.kind b.id a e c.is_own.ensures (ap not c.if-not-is_own.false)) in
-    record { answer = sym f; set = ap set_looked (sym f) }
+pub returns-else-not-is_of : goal.returns-else-not-is_of
+returns-else-not-is_of c =
+    let p = c.args.place in
+    let k = number_of p.kind in
+    let b = c.bytes.ensures in
+    let a = c.parse_aps_rbsp-reading.result.set in
+    let e = read_as c.bytes.result.now a (place-few c.args.table.now _ k p.id (names-of p.kind p.id p.named) b).1 c.parse_aps_rbsp-reading.ensures.answer c.in-Read.is in
+    sym (ap found_in (held-read c.args.table.now _ k p.id b ∙ under-own k p.id a e c.is_of.ensures (ap not c.if-not-is_of.false)))
 
 pub returns-in-Refused : goal.returns-in-Refused
-unfolding held
 returns-in-Refused c =
-    let b = c.args in
-    let a = c.read_place-reading.result.set in
-    let e = answered (λ (o : ApsOutcome). outcome_read o a) c.in-Refused.is c.read_place-reading.ensures in
-    let r = answer-as c.no_set-in-Refused.result c.no_set-in-Refused.ensures (ap (λ (o : Outcome VvcAps). found_in (under b.kind b.id o)) e) in record { answer = r.0; set = r.1 }
+    let p = c.args.place in
+    let k = number_of p.kind in
+    let b = c.bytes.ensures in
+    let a = c.parse_aps_rbsp-reading.result.set in
+    let e = read_as c.bytes.result.now a (place-few c.args.table.now _ k p.id (names-of p.kind p.id p.named) b).1 c.parse_aps_rbsp-reading.ensures.answer c.in-Refused.is in
+    sym (ap found_in (held-read c.args.table.now _ k p.id b ∙ ap (under k p.id) e))
