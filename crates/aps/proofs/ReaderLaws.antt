@@ -23,7 +23,7 @@ use Rattle.aps.proofs.FieldSteps.{signed-u-lt}
 use Rattle.aps.proofs.PairLaws.{zipped-there}
 use Rattle.aps.specs.declared.reader.Reader.{Reader}
 use Rattle.aps.specs.Inner.{ends_at}
-use Rattle.aps.specs.Reads.{given, filled, Reads, Stands}
+use Rattle.aps.specs.Reads.{given, filled, Reads, ReadsOn, Stands}
 use Rattle.aps.proofs.Steps.{judged-true, apart-read, Reading, reading-start, reading-more, reading-refused, reading-done}
 use Rattle.aps.proofs.Steps.{Reading2, reading2-start, reading2-from, reading2-more, reading2-refused, reading2-done}
 
@@ -48,6 +48,13 @@ module _ {A : Type 0} {c : Codec A} {w0 w1 : Reader} where
 
   pub fills-exit : {T : Type 0} (r : Result T Refusal) (e : Refusal) (a : A) (q : ℕ) → IsErrAnd r (λ y. y ≡ e) → Reads c (refused (number e)) w0 w1 → Reads c (filled r a q) w0 w1
   fills-exit r e a q h k = record { field = filled-exit r e a q h k.field; bytes = k.bytes }
+
+  -- a refusal leaves the reader where it was
+  pub reads-kept : {n : ℕ} → Reads c (refused n) w0 w1 → Reads c (refused n) w0 w0
+  reads-kept r = record { field = r.field; bytes = refl }
+
+  pub reads_on-exit : (r : Result (A × Reader) Refusal) (e : Refusal) → IsErrAnd r (λ y. y ≡ e) → Reads c (refused (number e)) w0 w1 → ReadsOn c r w0
+  reads_on-exit r e h k = let p = err_from_is_err_and r h in rw (p.1, p.2) (record { field = k.field; bytes = refl })
 
   -- a reader at the same place
   pub reads-from : {o : Outcome A} {w2 : Reader} → Stands w0 w1 → Reads c o w1 w2 → Reads c o w0 w2

@@ -1,5 +1,5 @@
 -- A ue at the start of a window, by the table of short codes.
-use Prim.Native.Nat.{ℕ, ◌+◌, ◌*◌, ◌≤◌, ◌<◌}
+use Prim.Native.Nat.{ℕ, ◌+◌, ◌*◌, ◌≤◌}
 use Rattle.std.specs.Prelude.{Some}
 use mathlib.Core.Path.{◌≡◌}
 use mathlib.Core.List.{List}
@@ -7,7 +7,7 @@ use native.Mathlib.Omega.{arith}
 use lib.ListN.{length}
 use Rattle.bitstream.specs.Outcome.{value}
 use Rattle.bitstream.specs.Windows.{IsWindow, code_in}
-use Rattle.bitstream.proofs.WindowLaws.{Found, code-found, code-most, code-small}
+use Rattle.bitstream.proofs.WindowLaws.{Found, code-found, code-most}
 use Rattle.aps.specs.Codec.{ue}
 use Rattle.aps.proofs.WindowSteps.{found-ue}
 

@@ -24,3 +24,8 @@ pub record Stands (before after : Reader) : Type 0 where
 pub record Reads {A : Type 0} (c : Codec A) (o : Outcome A) (before after : Reader) : Type 0 where
   pub field : o ≡ c.read before.bytes.now before.at
   pub bytes : after.bytes.now ≡ before.bytes.now
+
+-- the same where the reader after it is given too; after a refusal it is where it was
+abbrev pub ReadsOn : {A : Type 0} → Codec A → Result (A × Reader) Refusal → Reader → Type 0
+ReadsOn c (Ok x) before = Reads c (value x.0 x.1.at) before x.1
+ReadsOn c (Err e) before = Reads c (refused (number e)) before before

@@ -95,11 +95,13 @@ fn read_cc_coefficients(
     requires { (count_minus1 ≤ 3) × (abs.old ≡ replicate 28 0) × (sign.old ≡ replicate 28 false) }
     ensures { Reads (cc_coefficients count_minus1) (filled result (abs.new, sign.new) reader.new.at) reader.old reader.new }
 {
+    let mut held = *reader;
     for i in 0..7 * (count_minus1 as usize + 1) {
-        let (magnitude, negative) = reader.signed(3)?;
+        let (magnitude, negative) = held.signed(3)?;
         abs[i] = magnitude as u8;
         sign[i] = negative;
     }
+    *reader = held;
     Ok(())
 }
 

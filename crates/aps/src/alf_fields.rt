@@ -33,11 +33,13 @@ pub(crate) fn read_coefficients(
     ensures { Reads (apart (each (length abs.old) (λ i. when (ltb i n) no_signed coefficient)))
         (filled result (abs.new, sign.new) reader.new.at) reader.old reader.new }
 {
+    let mut held = *reader;
     for i in 0..n {
-        let (a, s) = reader.coefficient(codes)?;
+        let (a, s) = held.coefficient(codes)?;
         abs[i] = a;
         sign[i] = s;
     }
+    *reader = held;
     Ok(())
 }
 
@@ -62,10 +64,12 @@ pub(crate) fn read_clips(reader: &mut Reader, rows: usize, clips: &mut [u8]) -> 
     ensures { Reads (each (length clips.old) (λ i. when (ltb i (6 * rows)) no_number (u 2)))
         (filled result clips.new reader.new.at) reader.old reader.new }
 {
+    let mut held = *reader;
     for row in 0..rows {
-        let six = six_clips(reader.u(12, 12)?);
+        let six = six_clips(held.u(12, 12)?);
         clips[6 * row..6 * row + 6].copy_from_slice(&six);
     }
+    *reader = held;
     Ok(())
 }
 

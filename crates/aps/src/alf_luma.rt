@@ -22,13 +22,15 @@ fn read_indexes(
         return Ok(());
     }
     let bits = ceil_log2(count_minus1 + 1);
+    let mut held = *reader;
     for index in indexes.iter_mut() {
-        let x = reader.u(bits, 5)?;
+        let x = held.u(bits, 5)?;
         if count_minus1 < x {
             return Err(Refusal::InvalidData);
         }
         *index = x as u8;
     }
+    *reader = held;
     Ok(())
 }
 

@@ -79,11 +79,13 @@ fn read_codewords(
     requires { (in_range (min, (max, prec)) ≡ true) × (abs.old ≡ replicate 16 0) × (sign.old ≡ replicate 16 false) }
     ensures { Reads (lmcs_codewords (min, (max, prec))) (filled result (abs.new, sign.new) reader.new.at) reader.old reader.new }
 {
+    let mut held = *reader;
     for i in min as usize..16 - max as usize {
-        let (magnitude, negative) = reader.signed(prec + 1)?;
+        let (magnitude, negative) = held.signed(prec + 1)?;
         abs[i] = magnitude;
         sign[i] = negative;
     }
+    *reader = held;
     Ok(())
 }
 

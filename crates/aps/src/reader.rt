@@ -9,7 +9,7 @@ use bitstream::short_codes::CodeTable;
 use bitstream::window::window;
 
 // The `left` highest of `bits` are the bits from bit `at` on, zeros past the end.
-#[derive(Drop)]
+#[derive(Clone, Copy)]
 pub(crate) struct Reader<'a> {
     bytes: &'a [u8],
     at: usize,
@@ -20,14 +20,14 @@ pub(crate) struct Reader<'a> {
     ghost known: { IsWindow bytes.now at left bits },
 }
 
-// What every field passes is inlined into the loops that read.
+// What every field passes is inlined into the loops that read, each on a copy of the reader, so that it stays in registers.
 impl<'a> Reader<'a> {
     ghost use Rattle.std.specs.Prelude.{pos, negsuc};
     ghost use Rattle.bitstream.specs.Fields.{read_trailing};
     ghost use Rattle.aps.specs.Codec.{u, ue, when};
     ghost use Rattle.aps.specs.Elements.{flag, no_flag, ue_to, se_in, signed};
     ghost use Rattle.aps.specs.AlfSyntax.{coefficient};
-    ghost use Rattle.aps.specs.Reads.{given, Reads, Stands};
+    ghost use Rattle.aps.specs.Reads.{given, Reads, ReadsOn, Stands};
 
     // From bit `at` on.
     pub(crate) fn new(bytes: &'a [u8], at: usize) -> Self
@@ -212,20 +212,22 @@ impl<'a> Reader<'a> {
                 }
             }
         }
-        self.long_coefficient(codes)
+        let (field, next) = self.long_coefficient(codes)?;
+        *self = next;
+        Ok(field)
     }
 
-    // One that the word does not hold, or that is refused.
-    #[inline(always)]
-    fn long_coefficient(&mut self, codes: &CodeTable) -> Result<(u32, bool), Refusal>
-        ensures { Reads coefficient (given result self.new.at) self.old self.new }
+    // One that the word does not hold, or that is refused, and the reader after it.
+    #[inline(never)]
+    fn long_coefficient(mut self, codes: &CodeTable) -> Result<((u32, bool), Self), Refusal>
+        ensures { ReadsOn coefficient result self.entry }
     {
         let abs = self.ue_to(codes, 128)?;
         if abs == 0 {
-            return Ok((abs, false));
+            return Ok(((abs, false), self));
         }
         let sign = self.flag()?;
-        Ok((abs, sign))
+        Ok(((abs, sign), self))
     }
 }
 

@@ -13,6 +13,7 @@ use bitstream::Refusal;
 use bitstream::short_codes::CodeTable;
 
 // The sum at position i, after prev.
+#[inline(always)]
 fn read_step(
     reader: &mut Reader,
     codes: &CodeTable,
@@ -41,11 +42,13 @@ fn read_sums(
     requires { (length list.old ≡ entries id) × (nat_abs dc ≤ 128) }
     ensures { Reads (sums id 0 (entries id) dc) (filled result list.new reader.new.at) reader.old reader.new }
 {
+    let mut held = *reader;
     let mut sum = dc;
     for i in 0..list.len() {
-        sum = read_step(reader, codes, id, i, sum)?;
+        sum = read_step(&mut held, codes, id, i, sum)?;
         list[i] = sum;
     }
+    *reader = held;
     Ok(())
 }
 

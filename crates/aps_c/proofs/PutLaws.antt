@@ -8,7 +8,7 @@ use native.Mathlib.Numerals.{add-one}
 use native.Mathlib.Nat.{add-zero}
 use lib.IntN.{ℤ}
 use lib.ListN.{length, take, get_or, set, length-append, length-map}
-use lib.Seq.{sets, take-suc, take_all, length-take-le}
+use lib.Seq.{sets, take-suc, length-take-le}
 use mir.Val.{bool_byte}
 use Rattle.aps_c.specs.Numbers.{Put, flag_number}
 
@@ -30,7 +30,7 @@ put_then {before} {between} {after} {xs} {ys} {from} {mid} {next} p q =
     let h : sets between mid ys ≡ sets before from (xs ++ ys) = rw (p.holds, p.ends) (sets-append before from xs ys) in
     record { holds = q.holds ∙ h; ends = omega (arith, p.ends, q.ends, length-append xs ys) }
 
--- A loop that writes what f makes of each element: where it stands, one turn, and after it.
+-- A loop that writes what f makes of each element: where it stands, and one turn.
 module _ {X Y : Type 0} (f : X → Y) (src : List X) (before : List Y) (from : ℕ) where
   abbrev pub Copied : ℕ → List Y → Type 0
   Copied i out = out ≡ sets before from (map f (take i src))
@@ -40,13 +40,6 @@ module _ {X Y : Type 0} (f : X → Y) (src : List X) (before : List Y) (from : �
       let n : length (map f (take i src)) ≡ i = length-map (take i src) f ∙ length-take-le i src (omega arith) in
       let k : from + i ≡ from + length (map f (take i src)) = omega arith in
       rw (add-one i, take-suc src i d h, map-append, e, k, m) (sets-append before from (map f (take i src)) (f (get_or src i d) ∷ []))
-
-module _ {X : Type 0} (f : X → ℤ) (src : List X) (before : List ℤ) (from : ℕ) where
-  pub copy_done : {i : ℕ} {out : List ℤ} → length src ≡ i → Copied f src before from i out → Put before from (map f src) out (from + i)
-  copy_done {i} h e =
-      let t : take i src ≡ src = take_all i src (omega arith) in
-      let n : length (map f src) ≡ length src = length-map src f in
-      record { holds = e ∙ rw t; ends = omega arith }
 
 -- a flag as std makes a number of it
 pub flag-byte : (b : Bool) → bool_byte b ≡ flag_number b

@@ -1,24 +1,164 @@
 // Each kind read and written alone, without the record of all three.
 ghost use Rattle.std.specs.Prelude.{◌≡◌};
-ghost use Rattle.bitstream.specs.Outcome.{left};
+ghost use Rattle.bitstream.specs.Outcome.{left, outcome_written};
+ghost use Rattle.aps.specs.ApsSyntax.{number_of};
 ghost use Rattle.aps.specs.Rbsp.{parse_aps_rbsp};
+ghost use Rattle.aps.specs.Reading.{outcome_read, set_given, head_of};
+ghost use Rattle.aps.specs.Writing.{write_aps};
+ghost use Rattle.aps.specs.declared.aps.ApsKind.{ApsKind};
+ghost use Rattle.aps.specs.declared.aps.VvcAps.{VvcAps};
 ghost use Rattle.aps_c.specs.Codes.{code, place_left, rewrite_of};
 
 use crate::{ended, sized};
+use aps::alf::VvcAlfData;
 use aps::alf_set::parse_alf_rbsp;
-use aps::aps::{Alf, ApsKind, ApsOutcome, Lmcs, Scaling, number_of};
+use aps::aps::{ApsHead, ApsKind, ApsOutcome, number_of};
+use aps::lmcs::VvcLmcsData;
 use aps::lmcs_set::parse_lmcs_rbsp;
+use aps::scaling_list::VvcScalingListData;
 use aps::scaling_set::parse_scaling_rbsp;
 use aps::write::{write_alf, write_lmcs, write_scaling};
+use bitstream::Refusal;
+
+// What reading gives of a set of one kind; of a set of another kind the head.
+#[derive(Clone, Copy)]
+struct Reading<T> {
+    outcome: ApsOutcome,
+    head: ApsHead,
+    payload: T,
+}
+
+// The data of one kind, read and written without the other two.
+trait Payload: Copy {
+    const KIND: ApsKind;
+
+    ghost KIND: { ApsKind };
+
+    ghost payload: { VvcAps → Self };
+
+    fn read(bytes: &[u8]) -> Reading<Self>
+        ensures answer { outcome_read result.outcome (set_given (parse_aps_rbsp bytes.now)) ≡ parse_aps_rbsp bytes.now }
+        ensures head { result.head ≡ head_of (set_given (parse_aps_rbsp bytes.now)) }
+        ensures payload { result.payload ≡ payload (set_given (parse_aps_rbsp bytes.now)) };
+
+    fn write(&self, head: &ApsHead, out: &mut [u8]) -> Result<usize, Refusal>
+        ensures answer { (a : VvcAps) → head.now ≡ head_of a → self.now ≡ payload a → number_of head.now.kind ≡ number_of KIND → outcome_written result out.new ≡ write_aps a out.old }
+        ensures bytes { (a : VvcAps) → head.now ≡ head_of a → self.now ≡ payload a → number_of head.now.kind ≡ number_of KIND → out.new ≡ left out.old (write_aps a out.old) };
+}
+
+impl Payload for VvcAlfData {
+    const KIND: ApsKind = ApsKind::Alf;
+
+    ghost KIND = { ApsKind.Alf };
+
+    ghost payload = { λ a. a.alf };
+
+    fn read(bytes: &[u8]) -> Reading<VvcAlfData> {
+        let reading = parse_alf_rbsp(bytes);
+        Reading {
+            outcome: reading.outcome,
+            head: reading.head,
+            payload: reading.alf,
+        }
+    }
+
+    fn write(&self, head: &ApsHead, out: &mut [u8]) -> Result<usize, Refusal> {
+        write_alf(
+            head.aps_adaptation_parameter_set_id,
+            head.aps_chroma_present_flag,
+            head.aps_extension_flag,
+            self,
+            out,
+        )
+    }
+}
+
+impl Payload for VvcLmcsData {
+    const KIND: ApsKind = ApsKind::Lmcs;
+
+    ghost KIND = { ApsKind.Lmcs };
+
+    ghost payload = { λ a. a.lmcs };
+
+    fn read(bytes: &[u8]) -> Reading<VvcLmcsData> {
+        let reading = parse_lmcs_rbsp(bytes);
+        Reading {
+            outcome: reading.outcome,
+            head: reading.head,
+            payload: reading.lmcs,
+        }
+    }
+
+    fn write(&self, head: &ApsHead, out: &mut [u8]) -> Result<usize, Refusal> {
+        write_lmcs(
+            head.aps_adaptation_parameter_set_id,
+            head.aps_chroma_present_flag,
+            head.aps_extension_flag,
+            self,
+            out,
+        )
+    }
+}
+
+impl Payload for VvcScalingListData {
+    const KIND: ApsKind = ApsKind::Scaling;
+
+    ghost KIND = { ApsKind.Scaling };
+
+    ghost payload = { λ a. a.scaling };
+
+    fn read(bytes: &[u8]) -> Reading<VvcScalingListData> {
+        let reading = parse_scaling_rbsp(bytes);
+        Reading {
+            outcome: reading.outcome,
+            head: reading.head,
+            payload: reading.scaling,
+        }
+    }
+
+    fn write(&self, head: &ApsHead, out: &mut [u8]) -> Result<usize, Refusal> {
+        write_scaling(
+            head.aps_adaptation_parameter_set_id,
+            head.aps_chroma_present_flag,
+            head.aps_extension_flag,
+            self,
+            out,
+        )
+    }
+}
+
+// A set read by one kind: whether there is a set, and the bit where reading it ended.
+fn read_end<P: Payload>(bytes: &[u8], end: &mut [u64; 1]) -> u32
+    ensures code { result ≡ code (parse_aps_rbsp bytes.now) }
+    ensures end { end.new ≡ place_left (parse_aps_rbsp bytes.now) end.old }
+{
+    ended(P::read(bytes).outcome, end)
+}
+
+// A set read and written again by one kind, and its length; 2 for a set of another kind.
+fn rewrite<P: Payload>(bytes: &[u8], out: &mut [u8], len: &mut [u64; 1]) -> u32
+    ensures code { result ≡ code (rewrite_of P.KIND bytes.now out.old) }
+    ensures out { out.new ≡ left out.old (rewrite_of P.KIND bytes.now out.old) }
+    ensures len { len.new ≡ place_left (rewrite_of P.KIND bytes.now out.old) len.old }
+{
+    let reading = P::read(bytes);
+    match reading.outcome {
+        ApsOutcome::Read(_) => {
+            if number_of(reading.head.kind) != number_of(P::KIND) {
+                return 2;
+            }
+            sized(reading.payload.write(&reading.head, out), len)
+        }
+        ApsOutcome::Refused(e) => e.into(),
+    }
+}
 
 // An ALF set read by its own kind: whether there is a set, and the bit where reading it ended.
 pub fn aps_alf_end(bytes: &[u8], end: &mut [u64; 1]) -> u32
     ensures code { result ≡ code (parse_aps_rbsp bytes.now) }
     ensures end { end.new ≡ place_left (parse_aps_rbsp bytes.now) end.old }
 {
-    let reading = parse_alf_rbsp(bytes);
-    let outcome = reading.outcome;
-    ended(outcome, end)
+    read_end::<VvcAlfData>(bytes, end)
 }
 
 // An ALF set read and written again by its own kind, and its length; 2 for a set of another kind.
@@ -27,22 +167,7 @@ pub fn aps_alf_rewrite(bytes: &[u8], out: &mut [u8], len: &mut [u64; 1]) -> u32
     ensures out { out.new ≡ left out.old (rewrite_of ApsKind.Alf bytes.now out.old) }
     ensures len { len.new ≡ place_left (rewrite_of ApsKind.Alf bytes.now out.old) len.old }
 {
-    let reading = parse_alf_rbsp(bytes);
-    let outcome = reading.outcome;
-    let head = reading.head;
-    let kind = head.kind;
-    match outcome {
-        ApsOutcome::Read(_) => {
-            if number_of(kind) != Alf::NUMBER {
-                return 2;
-            }
-            let id = head.aps_adaptation_parameter_set_id;
-            let chroma = head.aps_chroma_present_flag;
-            let extension = head.aps_extension_flag;
-            sized(write_alf(id, chroma, extension, &reading.alf, out), len)
-        }
-        ApsOutcome::Refused(e) => e.into(),
-    }
+    rewrite::<VvcAlfData>(bytes, out, len)
 }
 
 // An LMCS set read by its own kind: whether there is a set, and the bit where reading it ended.
@@ -50,9 +175,7 @@ pub fn aps_lmcs_end(bytes: &[u8], end: &mut [u64; 1]) -> u32
     ensures code { result ≡ code (parse_aps_rbsp bytes.now) }
     ensures end { end.new ≡ place_left (parse_aps_rbsp bytes.now) end.old }
 {
-    let reading = parse_lmcs_rbsp(bytes);
-    let outcome = reading.outcome;
-    ended(outcome, end)
+    read_end::<VvcLmcsData>(bytes, end)
 }
 
 // An LMCS set read and written again by its own kind, and its length; 2 for a set of another kind.
@@ -61,22 +184,7 @@ pub fn aps_lmcs_rewrite(bytes: &[u8], out: &mut [u8], len: &mut [u64; 1]) -> u32
     ensures out { out.new ≡ left out.old (rewrite_of ApsKind.Lmcs bytes.now out.old) }
     ensures len { len.new ≡ place_left (rewrite_of ApsKind.Lmcs bytes.now out.old) len.old }
 {
-    let reading = parse_lmcs_rbsp(bytes);
-    let outcome = reading.outcome;
-    let head = reading.head;
-    let kind = head.kind;
-    match outcome {
-        ApsOutcome::Read(_) => {
-            if number_of(kind) != Lmcs::NUMBER {
-                return 2;
-            }
-            let id = head.aps_adaptation_parameter_set_id;
-            let chroma = head.aps_chroma_present_flag;
-            let extension = head.aps_extension_flag;
-            sized(write_lmcs(id, chroma, extension, &reading.lmcs, out), len)
-        }
-        ApsOutcome::Refused(e) => e.into(),
-    }
+    rewrite::<VvcLmcsData>(bytes, out, len)
 }
 
 // A scaling set read by its own kind: whether there is a set, and the bit where reading it ended.
@@ -84,9 +192,7 @@ pub fn aps_scaling_end(bytes: &[u8], end: &mut [u64; 1]) -> u32
     ensures code { result ≡ code (parse_aps_rbsp bytes.now) }
     ensures end { end.new ≡ place_left (parse_aps_rbsp bytes.now) end.old }
 {
-    let reading = parse_scaling_rbsp(bytes);
-    let outcome = reading.outcome;
-    ended(outcome, end)
+    read_end::<VvcScalingListData>(bytes, end)
 }
 
 // A scaling set read and written again by its own kind, and its length; 2 for a set of another kind.
@@ -95,23 +201,5 @@ pub fn aps_scaling_rewrite(bytes: &[u8], out: &mut [u8], len: &mut [u64; 1]) -> 
     ensures out { out.new ≡ left out.old (rewrite_of ApsKind.Scaling bytes.now out.old) }
     ensures len { len.new ≡ place_left (rewrite_of ApsKind.Scaling bytes.now out.old) len.old }
 {
-    let reading = parse_scaling_rbsp(bytes);
-    let outcome = reading.outcome;
-    let head = reading.head;
-    let kind = head.kind;
-    match outcome {
-        ApsOutcome::Read(_) => {
-            if number_of(kind) != Scaling::NUMBER {
-                return 2;
-            }
-            let id = head.aps_adaptation_parameter_set_id;
-            let chroma = head.aps_chroma_present_flag;
-            let extension = head.aps_extension_flag;
-            sized(
-                write_scaling(id, chroma, extension, &reading.scaling, out),
-                len,
-            )
-        }
-        ApsOutcome::Refused(e) => e.into(),
-    }
+    rewrite::<VvcScalingListData>(bytes, out, len)
 }

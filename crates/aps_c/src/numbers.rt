@@ -10,7 +10,7 @@ use aps::scaling_list::VvcScalingListData;
 // Numbers that a set is made of.
 pub const NUMBERS: usize = 3122;
 
-// A field that a number stands for.
+// A field as a number.
 trait Number: Copy {
     ghost number: { Self → ℤ };
 
@@ -50,6 +50,7 @@ impl Number for bool {
     }
 }
 
+// As many numbers as src has fields, from index `from` on, and the index after them.
 fn put<T: Number>(src: &[T], out: &mut [i64; NUMBERS], from: usize) -> usize
     requires { from + length src.now ≤ 3122 }
     ensures { Put out.old from (map T.number src.now) out.new result × (result ≡ from + length src.now) }

@@ -1,5 +1,4 @@
 -- A table without a set: places looked at one after another, and its list.
-use Rattle.std.specs.Prelude.{Result, Ok, Err, is_ok}
 use borrow.Author.Tests.{eqb-true, ne_eqb, le-ltb}
 use mathlib.Core.Path.{◌≡◌, refl, sym, ◌∙◌}
 use mathlib.Core.Bool.{true, false}
@@ -11,24 +10,14 @@ use lib.Dec.{eqb}
 use lib.ListN.{length, drop}
 use Rattle.bitstream.specs.Outcome.{value}
 use Rattle.bitstream.specs.Escapes.{put_bytes}
-use Rattle.aps.specs.declared.aps.ApsHead.{ApsHead}
 use Rattle.aps.specs.declared.aps.VvcAps.{VvcAps}
-use Rattle.bitstream.specs.declared.Refusal.{Refusal}
-use Rattle.aps_table.specs.Places.{Entries, names, present, filled_among, filled, held, found_in}
-use Rattle.aps_table.specs.Answers.{head_answer, head_looked}
+use Rattle.aps_table.specs.Places.{Entries, names, present, filled_among, filled, held}
 use Rattle.aps_table.specs.List.{listed, any_extended, list_due, write_list}
 
 -- no set
 none-present : (a : Option VvcAps) → eqb (present a) 1 ≡ false → present a ≡ 0
 none-present none e = refl
 none-present (some a) e = cc
-
--- a lookup's answer tells whether there is one
-pub answer-present : (r : Result ApsHead Refusal) (m : Option VvcAps) → head_answer r ≡ head_looked (found_in m) → is_ok r ≡ eqb (present m) 1
-answer-present (Ok h) none e = absurd cc
-answer-present (Ok h) (some a) e = refl
-answer-present (Err why) none e = refl
-answer-present (Err why) (some a) e = absurd cc
 
 -- no set among so many
 none_of : (a : Option VvcAps) (m : ℕ) → present a + m ≡ 0 → (a ≡ none) × (m ≡ 0)

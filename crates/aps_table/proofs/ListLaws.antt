@@ -1,4 +1,4 @@
--- The list at a cut: bytes joined, the entries of places one after another, and how long an entry is.
+-- The list at a cut: bytes joined, what the entries of places come to, and how long an entry is.
 use borrow.Author.Tests.{eqb-true}
 use mathlib.Core.Path.{◌≡◌, refl, sym, ap, ◌∙◌}
 use mathlib.Core.Bool.{Bool, true, false, cond, ◌&&◌, ◌||◌, false≢true}
@@ -42,17 +42,6 @@ joined-joined (value l m) (value k n) (value j i) = rw (append_assoc l k j, add_
 joined-joined (value l m) (value k n) (refused e) = refl
 joined-joined (value l m) (refused e) q = refl
 joined-joined (refused e) p q = refl
-
--- ---- the entries of places
-
-module _ (b : Entries) where
-  -- those of places and then of others
-  pub listed-append : (ns ms : List (ℕ × ℕ)) → listed (ns ++ ms) b ≡ joined (listed ns b) (listed ms b)
-  unfolding listed
-  listed-append [] ms = sym (joined-first (listed ms b))
-  listed-append (n ∷ ns) ms =
-      let e = entry (b n.0 n.1) in
-      ap (joined e) (listed-append ns ms) ∙ sym (joined-joined e (listed ns b) (listed ms b))
 
 -- ---- a set held
 

@@ -9,8 +9,8 @@ use mathlib.Core.Option.{Option, none, some}
 use Prim.Native.Nat.{ℕ, suc, ◌+◌, ◌-◌, ◌*◌, ◌/◌, ◌≤◌}
 use native.Mathlib.Omega.{arith}
 use lib.Dec.{ltb}
-use lib.ListN.{length, take, drop, set, length-append, length-take, length-drop}
-use lib.Seq.{sets, sets-eq, length-take-le, take-append-le, take-append-add, take-append_seam, take-take, drop_at}
+use lib.ListN.{length, take, drop, length-take, length-drop}
+use lib.Seq.{drop-drop, length-take-le, take-append-le, take-append-add, take-append_seam, take-take, drop_at}
 use Rattle.bitstream.specs.Outcome.{Outcome, value, refused, left, ◌then◌}
 use Rattle.bitstream.specs.Escapes.{put_bytes}
 use Rattle.bitstream.specs.declared.Refusal.{Refusal}
@@ -46,7 +46,8 @@ nal-within bytes type out s last n e h = go (is_aps type) (ltb 65536 (length byt
 
 -- the buffer with a start code at p, and `last` after it
 abbrev with_code : List ℕ → ℕ → List ℕ → List ℕ
-with_code out p last = set (set (set (set (put_mid (p + 4) (length out - (p + 4)) out last) p 0) (p + 1) 0) (p + 2) 0) (p + 3) 1
+with_code out p last =
+    put_mid p (p + 4 - p) (put_mid (p + 4) (length out - (p + 4)) out last) (0 ∷ 0 ∷ 0 ∷ 1 ∷ [])
 
 module _ (out : List ℕ) (p : ℕ) (bytes : List ℕ) (h : (p + (6 + length bytes * 3 / 2) ≤ length out) × (length bytes ≤ most_bytes 2)) where
   -- the unit of the bytes
@@ -83,12 +84,9 @@ module _ (out : List ℕ) (p : ℕ) (bytes : List ℕ) (h : (p + (6 + length byt
       let n : length (take p out) ≡ p = length-take-le p out (omega (arith, h)) in
       let t : take p l ≡ take p out = take-append-le p (take (p + 4) out) (unit ++ post) (omega arith) ∙ take-take p (p + 4) out (omega arith) in
       let d : drop (p + 4) l ≡ unit ++ post = drop_at (take (p + 4) out) (unit ++ post) (p + 4) n₄ in
-      let w : sets l p s ≡ take p out ++ (s ++ (unit ++ post)) = sets-eq s l p (omega (arith, length-append (take (p + 4) out) (unit ++ post))) ∙ rw (t, d) (append_assoc (take p out) s (unit ++ post)) in
-      let e₁ : p + 1 ≡ suc p = omega arith in
-      let e₂ : p + 2 ≡ suc (suc p) = omega arith in
-      let e₃ : p + 3 ≡ suc (suc (suc p)) = omega arith in
+      let e : p + 4 - p ≡ 4 = omega arith in
       let m : p + 4 + length unit ≡ length (take p out) + suc (suc (suc (suc (length unit)))) = omega arith in
-      rw (append_assoc unit more (drop (length out - (p + 4)) (drop (p + 4) out)), e₁, e₂, e₃, w, m, take-append-add (take p out) (s ++ (unit ++ post)) (suc (suc (suc (suc (length unit))))), take-append_seam unit post)
+      rw (append_assoc unit more (drop (length out - (p + 4)) (drop (p + 4) out)), e, drop-drop 4 p l, t, d, m, take-append-add (take p out) (s ++ (unit ++ post)) (suc (suc (suc (suc (length unit))))), take-append_seam unit post)
 
   -- the start code and the unit after it
   pub unit-put : (last : List ℕ) (n : ℕ) → value last n ≡ write_nal bytes 17 rest

@@ -9,7 +9,7 @@ use native.Mathlib.Omega.{arith}
 use lib.ListN.{length, get_or, drop, drop_of_length-le}
 use lib.Seq.{drop-cons, drop-drop, take-add, take-append_seam}
 use Rattle.aps_table.specs.Split.{Units, prepend, ended, gap, body}
-use Rattle.aps_table.specs.Inner.{Skipped, InUnit, UnitEnd, UnitAt, between, splits}
+use Rattle.aps_table.specs.Inner.{Skipped, InUnit, UnitEnd, between}
 use Rattle.aps_table.proofs.SplitLaws.{prepend-nil, prepend-prepend}
 
 -- a zero byte outside of a unit
@@ -109,10 +109,6 @@ module _ (s : List ℕ) (e : ℕ) where
   last_end (suc (suc (suc k))) h l m q p = absurd (omega arith)
 
 module _ (s : List ℕ) (a : ℕ) where
-  -- at its start
-  pub in-unit : a ≤ length s → InUnit s a a
-  in-unit h = record { from = omega arith; to = h; is = rw sub_self (sym (prepend-nil (body 0 (drop a s)))) }
-
   -- the bytes of two steps
   parts : (e r : ℕ) → a ≤ e → e ≤ r → (x : Units) → prepend (between s a e) (prepend (between s e r) x) ≡ prepend (between s a r) x
   parts e r h k x =
@@ -121,19 +117,12 @@ module _ (s : List ℕ) (a : ℕ) where
       let p : between s a r ≡ between s a e ++ between s e r = rw (n, take-add (e - a) (r - e) (drop a s), there) in
       rw p (prepend-prepend (between s a e) (between s e r) x)
 
-  -- a step, and the last one
+  -- they are one
   pub goes_on : (e r : ℕ) → InUnit s a e → InUnit s e r → InUnit s a r
   goes_on e r u v = record {
     from = omega (arith, u.from, v.from);
     to = v.to;
     is = u.is ∙ ap (prepend (between s a e)) v.is ∙ parts e r u.from v.from (body 0 (drop r s));
-  }
-
-  pub ends_at : (e r : ℕ) → InUnit s a e → UnitEnd s e r → UnitEnd s a r
-  ends_at e r u v = record {
-    from = omega (arith, u.from, v.from);
-    to = v.to;
-    ends = u.is ∙ ap (prepend (between s a e)) v.ends ∙ parts e r u.from v.from (ended (gap 0 (drop r s)));
   }
 
 -- what stands after the zero bytes
@@ -175,11 +164,3 @@ module _ (s : List ℕ) (i r : ℕ) (k : Skipped s i r) where
 
     pub next-starts : get_or s r 0 ≡ 1 → 2 ≤ r - i → gap 0 (drop i s) ≡ body 0 (drop (r + 1) s)
     next-starts e l = k.skips ∙ rw (byte s r (r + 1) refl h, e) (gap-starts (r - i) (drop (r + 1) s) l)
-
-splits-ended : (v : List ℕ) (r : Units) → splits (prepend v (ended r)) ≡ splits r
-splits-ended v none = refl
-splits-ended v (some us) = refl
-
--- past a unit the split holds as it does from the unit's end on
-pub splits-next : {s : List ℕ} {i a e : ℕ} → UnitAt s i a e → splits (gap 0 (drop i s)) ≡ splits (gap 0 (drop e s))
-splits-next {s} {a} {e} f = ap splits f.is ∙ splits-ended (between s a e) (gap 0 (drop e s))

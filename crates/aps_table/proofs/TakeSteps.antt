@@ -1,6 +1,6 @@
--- What a unit comes to on each way through it: passed over, refused, accepted; and how it is counted.
+-- What a unit comes to on each way through it: passed over, refused, accepted.
 use borrow.Author.Tests.{leb-true, le-ltb, not-true}
-use mathlib.Core.Path.{◌≡◌, refl, sym, ap, ◌∙◌}
+use mathlib.Core.Path.{◌≡◌, sym, ap, ◌∙◌}
 use mathlib.Core.Bool.{true, false, not, ◌&&◌}
 use mathlib.Core.List.{List, ◌++◌}
 use Prim.Native.Nat.{ℕ, ◌+◌, ◌/◌, ◌≤◌}
@@ -20,31 +20,10 @@ use Rattle.aps.proofs.CodecLaws.{then-value, and_left, and_right}
 use Rattle.aps.proofs.RbspLaws.{rbsp-end, read-most}
 use Rattle.aps.proofs.UnitSteps.{unit-refused}
 use Rattle.aps_table.specs.Places.{place_at, kind_in, id_in}
-use Rattle.aps_table.specs.Taking.{Verdict, accept, pass, refuse, is_passed, verdict, take_unit, count}
+use Rattle.aps_table.specs.Taking.{accept, is_passed, verdict, take_unit}
 use Rattle.aps_table.specs.Calls.{accepted, passed, refusal, single}
-use Rattle.aps_table.specs.declared.table.Counts.{Counts}
 use Rattle.aps_table.proofs.PlaceSteps.{place-within}
 use Rattle.aps_table.proofs.StoreLaws.{read_names, read_fits}
-
--- ---- counted
-
--- an accepted unit
-pub counts-accepted : (v : Verdict) (c : Counts) → accepted ≡ single v → record { accepted = c.accepted + 1; refused = c.refused; passed = c.passed } ≡ count v c
-counts-accepted (accept a q) c e = refl
-counts-accepted pass c e = cc
-counts-accepted (refuse n) c e = cc
-
--- a unit passed over
-pub counts-passed : (v : Verdict) (c : Counts) → passed ≡ single v → record { accepted = c.accepted; refused = c.refused; passed = c.passed + 1 } ≡ count v c
-counts-passed (accept a q) c e = cc
-counts-passed pass c e = refl
-counts-passed (refuse n) c e = cc
-
--- a refused unit
-pub counts-refused : (v : Verdict) (c : Counts) (n : ℕ) → refusal n ≡ single v → record { accepted = c.accepted; refused = c.refused + 1; passed = c.passed } ≡ count v c
-counts-refused (accept a q) c n e = cc
-counts-refused pass c n e = cc
-counts-refused (refuse m) c n e = refl
 
 -- ---- passed over
 

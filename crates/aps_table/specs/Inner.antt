@@ -38,7 +38,7 @@ pub record UnitEnd (s : List ℕ) (a e : ℕ) : Type 0 where
 -- what is known after a step from place e
 abbrev pub Scanned : List ℕ → ℕ → Scan → Type 0
 Scanned s e (Scan.On r) = (e < r) × InUnit s e r
-Scanned s e (Scan.End r) = UnitEnd s e r
+Scanned s e Scan.End = UnitEnd s e e
 
 -- a unit stands at places a to e, the first from place i on
 pub record UnitAt (s : List ℕ) (i a e : ℕ) : Type 0 where

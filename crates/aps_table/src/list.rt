@@ -28,10 +28,7 @@ fn put_unit(buffer: &mut [u8], at: usize, rbsp: &[u8]) -> Result<usize, Refusal>
 {
     let start = at + 4;
     let n = write_nal(rbsp, NAL_TYPE_PREFIX_APS, &mut buffer[start..])?;
-    buffer[at] = 0;
-    buffer[at + 1] = 0;
-    buffer[at + 2] = 0;
-    buffer[at + 3] = 1;
+    buffer[at..start].copy_from_slice(&[0, 0, 0, 1]);
     Ok(start + n)
 }
 

@@ -10,21 +10,19 @@ fn skip_zeros(s: &[u8], from: usize) -> usize
     requires { from ≤ length s.now }
     ensures { Skipped s.now from result }
 {
-    let mut i = from;
-    while i < s.len() {
+    for i in from..s.len() {
         if s[i] != 0 {
             return i;
         }
-        i += 1;
     }
-    i
+    s.len()
 }
 
 // A unit goes on at a later place, or ends.
 #[derive(Clone, Copy)]
-pub(crate) enum Scan {
+enum Scan {
     On(usize),
-    End(usize),
+    End,
 }
 
 // The last bytes of a stream, fewer than three: zero bytes at the end are not the unit's own.
@@ -34,7 +32,7 @@ fn scan_last(s: &[u8], e: usize) -> Scan
 {
     let n = s.len();
     if n == e {
-        return Scan::End(e);
+        return Scan::End;
     }
     if s[n - 1] != 0 {
         return Scan::On(n);
@@ -42,7 +40,7 @@ fn scan_last(s: &[u8], e: usize) -> Scan
     if s[e] != 0 {
         return Scan::On(e + 1);
     }
-    Scan::End(e)
+    Scan::End
 }
 
 // A step in a unit: no start code begins in three bytes of which the last is over 1.
@@ -62,7 +60,7 @@ fn scan_on(s: &[u8], e: usize) -> Scan
     if s[e] != 0 {
         return Scan::On(e + 1);
     }
-    Scan::End(e)
+    Scan::End
 }
 
 // Where the unit that starts at `start` ends.
@@ -71,16 +69,10 @@ fn unit_end(s: &[u8], start: usize) -> usize
     ensures { UnitEnd s.now start result }
 {
     let mut e = start;
-    loop {
-        match scan_on(s, e) {
-            Scan::On(next) => {
-                e = next;
-            }
-            Scan::End(end) => {
-                return end;
-            }
-        }
+    while let Scan::On(next) = scan_on(s, e) {
+        e = next;
     }
+    e
 }
 
 // Where a unit of the stream starts and ends.

@@ -8,7 +8,7 @@ use lib.Dec.{leb}
 use Rattle.aps.specs.Elements.{no_signed}
 use Rattle.aps.proofs.AlfSteps.{row-test}
 use Rattle.aps.proofs.Steps.{when-read}
-use Rattle.aps.proofs.ReaderLaws.{fills-exit, reads-sent, reads-signed-lt, filling2-start, filling2-more, filling2-refused, filling2-done}
+use Rattle.aps.proofs.ReaderLaws.{fills-exit, reads-kept, reads-sent, reads-signed-lt, filling2-start, filling2-more, filling2-refused, filling2-done}
 use Rattle.aps.proofs.alf_chroma.read_cc_coefficients.Goals as goal
 use Rattle.aps.proofs.alf_chroma.read_cc_coefficients.Invariants.{entry}
 
@@ -26,7 +26,7 @@ pub returns-in_err-magnitude : goal.returns-in_err-magnitude
 returns-in_err-magnitude c =
     let o = c.loop-i in
     let n = c.args.count_minus1 in
-    fills-exit _ _ _ _ c.from_residual.ensures.1 (filling2-refused (entry n) _ _ _ o.invariant (omega arith) (reads-sent _ no_signed (sent o.i n (omega arith)) c.in_err-magnitude.ensures))
+    fills-exit _ _ _ _ c.from_residual.ensures.1 (reads-kept (filling2-refused (entry n) _ _ _ o.invariant (omega arith) (reads-sent _ no_signed (sent o.i n (omega arith)) c.in_err-magnitude.ensures)))
 
 pub overflow_cast-abs : goal.overflow_cast-abs
 overflow_cast-abs c = record { fits = omega (arith, reads-signed-lt 3 c.in_ok-magnitude.ensures) }

@@ -11,4 +11,4 @@ abbrev pub entry : ℕ → ℕ → Codec (ℕ × Bool)
 entry n i = when (leb (i / 7) n) no_signed (signed (u 3))
 
 abbrev pub invariant-loop-i : goal.invariant-loop-i
-invariant-loop-i l = Filling2 (entry l.count_minus1) 28 0 false l.initial.reader l.i l.abs l.sign l.reader
+invariant-loop-i l = Filling2 (entry l.count_minus1) 28 0 false l.initial.held l.i l.abs l.sign l.held

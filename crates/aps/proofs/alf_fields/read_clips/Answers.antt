@@ -5,7 +5,7 @@ use Prim.Native.Nat.{◌+◌, ◌-◌, ◌*◌}
 use mathlib.Core.Path.{◌≡◌}
 use lib.ListN.{length}
 use Rattle.aps.proofs.ClipSteps.{clip_of, clips-more, clips-refused, read-lt}
-use Rattle.aps.proofs.ReaderLaws.{fills-exit, filling-start, filling-done}
+use Rattle.aps.proofs.ReaderLaws.{fills-exit, reads-kept, filling-start, filling-done}
 use Rattle.aps.proofs.RowLaws.{part-stored}
 use Rattle.aps.proofs.Steps.{when-read}
 use Rattle.aps.proofs.alf_fields.read_clips.Goals as goal
@@ -14,7 +14,7 @@ pub loop-row-init : goal.loop-row-init
 loop-row-init c = filling-start (clip_of (6 * c.args.rows)) _ 0 c.requires.2
 
 pub returns-in_err-u : goal.returns-in_err-u
-returns-in_err-u c = fills-exit _ _ _ _ c.from_residual.ensures.1 (clips-refused (6 * c.args.rows) _ c.requires.0 c.loop-row.invariant (omega arith) c.in_err-u.ensures)
+returns-in_err-u c = fills-exit _ _ _ _ c.from_residual.ensures.1 (reads-kept (clips-refused (6 * c.args.rows) _ c.requires.0 c.loop-row.invariant (omega arith) c.in_err-u.ensures))
 
 pub six_clips-six-requires : goal.six_clips-six-requires
 six_clips-six-requires c = read-lt 12 c.in_ok-u.ensures

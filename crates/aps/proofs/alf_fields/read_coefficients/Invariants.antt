@@ -13,4 +13,4 @@ abbrev pub entry : ℕ → ℕ → Codec (ℕ × Bool)
 entry n i = when (ltb i n) no_signed coefficient
 
 abbrev pub invariant-loop-i : goal.invariant-loop-i
-invariant-loop-i l = Filling2 (entry l.n) (length l.initial.abs) 0 false l.initial.reader l.i l.abs l.sign l.reader
+invariant-loop-i l = Filling2 (entry l.n) (length l.initial.abs) 0 false l.initial.held l.i l.abs l.sign l.held

@@ -5,7 +5,7 @@ use Rattle.aps.specs.Elements.{no_number}
 use Rattle.aps.proofs.AlfLaws.{ceil_log2-le, ceil_log2-some}
 use Rattle.aps.proofs.Steps.{when-read}
 use Rattle.aps.proofs.AlfSteps.{index}
-use Rattle.aps.proofs.ReaderLaws.{fills-exit, reads-sent, reads-judged, reads-not-judged, reads-judged-first}
+use Rattle.aps.proofs.ReaderLaws.{fills-exit, reads-kept, reads-sent, reads-judged, reads-not-judged, reads-judged-first}
 use Rattle.aps.proofs.ReaderLaws.{filling-start, filling-more, filling-refused, filling-done}
 use Rattle.aps.proofs.alf_luma.read_indexes.Goals as goal
 
@@ -28,13 +28,13 @@ returns-in_err-x c =
     let n = c.args.count_minus1 in
     let r = rw c.ceil_log2-bits.ensures.0 at c.in_err-x.ensures in
     fills-exit _ _ _ _ c.from_residual.ensures.1
-    (filling-refused (λ i. index n) 25 0 c.loop-index.invariant (omega arith) (reads-sent _ no_number (lt-ltb 0 n (omega arith)) (reads-judged-first _ r)))
+    (reads-kept (filling-refused (λ i. index n) 25 0 c.loop-index.invariant (omega arith) (reads-sent _ no_number (lt-ltb 0 n (omega arith)) (reads-judged-first _ r))))
 
 pub returns-then-count_minus1-x : goal.returns-then-count_minus1-x
 returns-then-count_minus1-x c =
     let n = c.args.count_minus1 in
     let r = rw c.ceil_log2-bits.ensures.0 at c.in_ok-x.ensures in
-    filling-refused (λ i. index n) 25 0 c.loop-index.invariant (omega arith) (reads-sent _ no_number (lt-ltb 0 n (omega arith)) (reads-not-judged _ (lt-leb _ _ c.if-count_minus1-x.true) r))
+    reads-kept (filling-refused (λ i. index n) 25 0 c.loop-index.invariant (omega arith) (reads-sent _ no_number (lt-ltb 0 n (omega arith)) (reads-not-judged _ (lt-leb _ _ c.if-count_minus1-x.true) r)))
 
 pub loop-index-preserved : goal.loop-index-preserved
 loop-index-preserved c =

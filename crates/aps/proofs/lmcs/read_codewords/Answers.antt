@@ -8,7 +8,7 @@ use Rattle.aps.specs.Elements.{no_signed}
 use Rattle.aps.specs.LmcsSyntax.{coded_from}
 use Rattle.aps.proofs.LmcsSteps.{in-range, bin}
 use Rattle.aps.proofs.Steps.{when-read}
-use Rattle.aps.proofs.ReaderLaws.{fills-exit, reads-sent, filling2-from, filling2-more, filling2-refused, filling2-done}
+use Rattle.aps.proofs.ReaderLaws.{fills-exit, reads-kept, reads-sent, filling2-from, filling2-more, filling2-refused, filling2-done}
 use Rattle.aps.proofs.lmcs.read_codewords.Goals as goal
 
 pub overflow_sub-i-end : goal.overflow_sub-i-end
@@ -35,7 +35,7 @@ returns-in_err-magnitude c =
     let a = c.args in
     let o = c.loop-i in
     fills-exit _ _ _ _ c.from_residual.ensures.1
-    (filling2-refused (bin a.min a.max a.prec) _ _ _ o.invariant (omega arith) (reads-sent _ no_signed (sent a.min a.max o.i (omega arith) (omega arith)) c.in_err-magnitude.ensures))
+    (reads-kept (filling2-refused (bin a.min a.max a.prec) _ _ _ o.invariant (omega arith) (reads-sent _ no_signed (sent a.min a.max o.i (omega arith) (omega arith)) c.in_err-magnitude.ensures)))
 
 pub loop-i-preserved : goal.loop-i-preserved
 loop-i-preserved c =

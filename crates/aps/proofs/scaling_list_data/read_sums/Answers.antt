@@ -5,7 +5,7 @@ use native.Mathlib.Omega.{arith}
 use mir.Syntax.{w32}
 use mir.Val.{to_z, of_z}
 use mir.Facts.{to_z-of_z}
-use Rattle.aps.proofs.ReaderLaws.{fills-exit}
+use Rattle.aps.proofs.ReaderLaws.{fills-exit, reads-kept}
 use Rattle.aps.proofs.ScalingLaws.{entries-le}
 use Rattle.aps.proofs.ScalingSteps.{summing-start, summing-more, summing-refused, summing-done}
 use Rattle.std.proofs.lemmas.Int.{to_z-of_z as to_z-of_z'}
@@ -26,7 +26,7 @@ read_step-requires c =
 pub returns-in_err-sum : goal.returns-in_err-sum
 returns-in_err-sum c =
     let r = summing-refused _ _ _ c.loop-i.invariant c.loop-i-test.true c.in_err-sum.ensures in
-    fills-exit _ _ _ _ c.from_residual.ensures.1 (rw (c.requires.0, dc-is (goal.at.returns-in_err-sum c).Start) at r)
+    fills-exit _ _ _ _ c.from_residual.ensures.1 (reads-kept (rw (c.requires.0, dc-is (goal.at.returns-in_err-sum c).Start) at r))
 
 pub loop-i-preserved : goal.loop-i-preserved
 loop-i-preserved c =

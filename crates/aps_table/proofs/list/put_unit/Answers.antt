@@ -17,4 +17,5 @@ returns-in_err-n-clause-buffer_after c =
     rw e (unit-refused c.args.buffer.now c.args.at c.args.rbsp.now c.requires _ c.in_err-n.ensures.answer)
 
 pub returns-clause-buffer_after : goal.returns-clause-buffer_after
-returns-clause-buffer_after c = unit-put c.args.buffer.now c.args.at c.args.rbsp.now c.requires _ _ c.in_ok-n.ensures.answer
+returns-clause-buffer_after c =
+    rw c.copy_from_slice.ensures.after (unit-put c.args.buffer.now c.args.at c.args.rbsp.now c.requires _ _ c.in_ok-n.ensures.answer)

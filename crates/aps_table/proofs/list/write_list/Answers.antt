@@ -2,10 +2,6 @@
 use Rattle.std.proofs.Common.{rules}
 use Rattle.std.specs.Prelude.{Err}
 use mathlib.Core.Path.{◌≡◌, sym, ap, ◌∙◌}
-use Prim.Native.Nat.{◌≤◌}
-use native.Mathlib.Omega.{arith}
-use lib.ListN.{length}
-use lib.Seq.{length-take-le}
 use Rattle.bitstream.specs.Outcome.{left}
 use Rattle.aps.proofs.UnitWrites.{answered-as}
 use Rattle.aps_table.proofs.BareLaws.{bare-list}
@@ -13,18 +9,11 @@ use Rattle.aps_table.proofs.ListSteps.{list-refused, list-bytes}
 use Rattle.aps_table.proofs.list.write_list.Goals as goal
 use Rattle.aps_table.proofs.list.write_list.Goals.{In_ok-n}
 
--- the list is within the buffer
-within : (c : In_ok-n) → c.in_ok-n.n ≤ length c.put_all.new.buffer
-within c = omega (arith, c.in_ok-n.ensures.within, c.in_ok-n.ensures.same)
-
 pub returns-then-is_bare : goal.returns-then-is_bare
 returns-then-is_bare c =
     let a = c.args in
     let e = bare-list a.table.now a.out.now (sym c.is_bare.ensures ∙ c.if-is_bare.true) in
     record { answer = sym e; bytes = sym (ap (left a.out.now) e) }
-
-pub slice_bounds-copy_out-end : goal.slice_bounds-copy_out-end
-slice_bounds-copy_out-end c = sym (length-take-le _ _ (within (goal.at.slice_bounds-copy_out-end c).In_ok-n))
 
 pub returns-in_err-n : goal.returns-in_err-n
 returns-in_err-n c =

@@ -7,6 +7,3 @@ pub returns-then-is_passed : goal.returns-then-is_passed
 returns-then-is_passed c =
     let a = c.args in
     let r = passes a.unit.now a.work.now a.table.now (sym c.is_passed.ensures ∙ c.if-is_passed.true) in record { answer = r.0; table = r.1.0; work = r.1.1 }
-
-pub take_aps-requires : goal.take_aps-requires
-take_aps-requires c = sym c.is_passed.ensures ∙ c.if-is_passed.false
