@@ -182,8 +182,8 @@ in-limits s h = rw (le-ltb _ _ h)
 -- ---- what stands before the payload, as the reader takes it
 
 -- what is read of the opened bytes
-pub opened : {s : List ℕ} {w : Reader} {h : ApsHead} → Opens s (Ok (w, h)) → read_rbsp w.bytes.now ≡ parse_aps_rbsp s
-opened {s} o = ap read_rbsp o.1 ∙ sym (in-limits s o.0)
+pub opened : {s b : List ℕ} → length s ≤ 65536 → b ≡ s → read_rbsp b ≡ parse_aps_rbsp s
+opened {s} short e = ap read_rbsp e ∙ sym (in-limits s short)
 
 -- what `?` returns
 pub opens-exit : (r : Result (Reader × ApsHead) Refusal) (e : Refusal) (s : List ℕ) → IsErrAnd r (λ y. y ≡ e) → parse_aps_rbsp s ≡ refused (number e) → Opens s r

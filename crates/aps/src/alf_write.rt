@@ -139,18 +139,18 @@ fn put_chroma_flag(writer: &mut Writer, chroma: bool, b: bool) -> Result<(), Ref
 pub(crate) fn write_alf_data(
     writer: &mut Writer,
     chroma: bool,
-    data: &VvcAlfData,
+    d: &VvcAlfData,
 ) -> Result<(), Refusal>
     requires { writer.old.at ≤ 100 }
-    ensures wrote { Wrote (alf chroma) data.now writer.old writer.new result }
+    ensures wrote { Wrote (alf chroma) d.now writer.old writer.new result }
     ensures within { writer.new.at ≤ writer.old.at + 7410 }
 {
-    writer.flag(data.alf_luma_filter_signal_flag)?;
-    put_chroma_flag(writer, chroma, data.alf_chroma_filter_signal_flag)?;
-    put_chroma_flag(writer, chroma, data.alf_cc_cb_filter_signal_flag)?;
-    put_chroma_flag(writer, chroma, data.alf_cc_cr_filter_signal_flag)?;
-    put_luma(writer, data.alf_luma_filter_signal_flag, &data.luma)?;
-    put_chroma(writer, data.alf_chroma_filter_signal_flag, &data.chroma)?;
-    put_cc(writer, data.alf_cc_cb_filter_signal_flag, &data.cc_cb)?;
-    put_cc(writer, data.alf_cc_cr_filter_signal_flag, &data.cc_cr)
+    writer.flag(d.alf_luma_filter_signal_flag)?;
+    put_chroma_flag(writer, chroma, d.alf_chroma_filter_signal_flag)?;
+    put_chroma_flag(writer, chroma, d.alf_cc_cb_filter_signal_flag)?;
+    put_chroma_flag(writer, chroma, d.alf_cc_cr_filter_signal_flag)?;
+    put_luma(writer, d.alf_luma_filter_signal_flag, &d.luma)?;
+    put_chroma(writer, d.alf_chroma_filter_signal_flag, &d.chroma)?;
+    put_cc(writer, d.alf_cc_cb_filter_signal_flag, &d.cc_cb)?;
+    put_cc(writer, d.alf_cc_cr_filter_signal_flag, &d.cc_cr)
 }
