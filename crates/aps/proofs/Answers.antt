@@ -1,7 +1,8 @@
 -- What an answer that was taken apart says of the definition it equals.
-use mathlib.Core.Path.{◌≡◌, sym, ap, ◌∙◌}
+use mathlib.Core.Path.{◌≡◌, refl, sym, ap, ◌∙◌}
 use Prim.Native.Nat.{ℕ}
-use Rattle.bitstream.specs.Outcome.{Outcome, value, map_outcome}
+use native.Mathlib.Omega.{arith}
+use Rattle.bitstream.specs.Outcome.{Outcome, value, refused, map_outcome}
 
 -- in an arm of a `match` on r: what the definition gives there
 pub answered : {F O : Type 0} (outcome : F → O) {r x : F} {o : O} → r ≡ x → outcome r ≡ o → o ≡ outcome x
@@ -10,3 +11,18 @@ answered outcome e f = sym f ∙ ap outcome e
 -- what is made of the value that o gives
 pub mapped : {A B : Type 0} (f : A → B) {a : A} {b : B} {q t : ℕ} {o : Outcome A} → value a q ≡ o → f a ≡ b → t ≡ q → value b t ≡ map_outcome f o
 mapped f e g h = rw (← g, h) (ap (map_outcome f) e)
+
+-- the value of which f made b, where o gave one
+pub record Made {A B : Type 0} (f : A → B) (b : B) (q : ℕ) (o : Outcome A) : Type 0 where
+  pub from : A
+  pub read : o ≡ value from q
+  pub is : b ≡ f from
+
+pub made : {A B : Type 0} (f : A → B) (o : Outcome A) {b : B} {q : ℕ} → value b q ≡ map_outcome f o → Made f b q o
+made f (value a r) {b} {q} e = let (g, h) : (b ≡ f a) × (q ≡ r) = (cc, cc) in record { from = a; read = rw h refl; is = g }
+made f (refused n) e = let z : ◌≡◌ {A = ℕ} 0 1 = cc in absurd (omega arith)
+
+-- where it gave none
+pub unmade : {A B : Type 0} (f : A → B) (o : Outcome A) {n : ℕ} → refused n ≡ map_outcome f o → o ≡ refused n
+unmade f (value a r) e = let z : ◌≡◌ {A = ℕ} 0 1 = cc in absurd (omega arith)
+unmade f (refused m) {n} e = let g : m ≡ n = cc in ap refused g

@@ -5,7 +5,7 @@ use mathlib.Core.List.{List}
 use lib.IntN.{ℤ}
 use lib.ListN.{set, length}
 use lib.Seq.{sets, length-sets}
-use Rattle.bitstream.specs.Outcome.{Outcome, value, refused}
+use Rattle.bitstream.specs.Outcome.{Outcome, value, refused, map_outcome}
 use Rattle.aps.specs.declared.aps.VvcAps.{VvcAps}
 use Rattle.aps.specs.declared.nal_header.VvcNalHeader.{VvcNalHeader}
 use Rattle.aps_c.specs.Numbers.{numbers, header_numbers}
@@ -27,6 +27,17 @@ module _ {A : Type 0} {o : Outcome A} where
   pub place-refused : {e : ℕ} (l : List ℕ) → o ≡ refused e → l ≡ place_left o l
   unfolding place_left
   place-refused l h = rw h
+
+-- of a value made of another nothing else is told
+pub code-mapped : {A B : Type 0} (f : A → B) (o : Outcome A) → code (map_outcome f o) ≡ code o
+unfolding code
+code-mapped f (value a p) = refl
+code-mapped f (refused e) = refl
+
+pub place-mapped : {A B : Type 0} (f : A → B) (o : Outcome A) (l : List ℕ) → place_left (map_outcome f o) l ≡ place_left o l
+unfolding place_left
+place-mapped f (value a p) l = refl
+place-mapped f (refused e) l = refl
 
 module _ {o : Outcome VvcAps} (l : List ℤ) where
   pub numbers-value : {a : VvcAps} {p : ℕ} → o ≡ value a p → sets l 0 (numbers a) ≡ numbers_left o l

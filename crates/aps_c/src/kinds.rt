@@ -1,9 +1,9 @@
 // Each kind read and written alone, without the record of all three.
 ghost use Rattle.std.specs.Prelude.{◌≡◌};
-ghost use Rattle.bitstream.specs.Outcome.{left, outcome_written};
+ghost use Rattle.bitstream.specs.Outcome.{left, map_outcome, outcome_written};
 ghost use Rattle.aps.specs.ApsSyntax.{number_of};
 ghost use Rattle.aps.specs.Rbsp.{parse_aps_rbsp};
-ghost use Rattle.aps.specs.Reading.{outcome_read, set_given, head_of};
+ghost use Rattle.aps.specs.Reading.{outcome_reading, head_of};
 ghost use Rattle.aps.specs.Writing.{write_aps};
 ghost use Rattle.aps.specs.declared.aps.ApsKind.{ApsKind};
 ghost use Rattle.aps.specs.declared.aps.VvcAps.{VvcAps};
@@ -12,21 +12,14 @@ ghost use Rattle.aps_c.specs.Codes.{code, place_left, rewrite_of};
 use crate::{ended, sized};
 use aps::alf::VvcAlfData;
 use aps::alf_set::parse_alf_rbsp;
-use aps::aps::{ApsHead, ApsKind, ApsOutcome, number_of};
+use aps::aps::{ApsHead, ApsKind, Reading, number_of};
 use aps::lmcs::VvcLmcsData;
 use aps::lmcs_set::parse_lmcs_rbsp;
+use aps::payload::ApsOf;
 use aps::scaling_list::VvcScalingListData;
 use aps::scaling_set::parse_scaling_rbsp;
 use aps::write::{write_alf, write_lmcs, write_scaling};
 use bitstream::Refusal;
-
-// What reading gives of a set of one kind; of a set of another kind the head.
-#[derive(Clone, Copy)]
-struct Reading<T> {
-    outcome: ApsOutcome,
-    head: ApsHead,
-    payload: T,
-}
 
 // The data of one kind, read and written without the other two.
 trait Payload: Copy {
@@ -34,16 +27,14 @@ trait Payload: Copy {
 
     ghost KIND: { ApsKind };
 
-    ghost payload: { VvcAps → Self };
+    ghost part: { VvcAps → Self };
 
-    fn read(bytes: &[u8]) -> Reading<Self>
-        ensures answer { outcome_read result.outcome (set_given (parse_aps_rbsp bytes.now)) ≡ parse_aps_rbsp bytes.now }
-        ensures head { result.head ≡ head_of (set_given (parse_aps_rbsp bytes.now)) }
-        ensures payload { result.payload ≡ payload (set_given (parse_aps_rbsp bytes.now)) };
+    fn read(bytes: &[u8]) -> Result<Reading<ApsOf<Self>>, Refusal>
+        ensures { outcome_reading result ≡ map_outcome (λ a. record { head = head_of a; payload = part a }) (parse_aps_rbsp bytes.now) };
 
     fn write(&self, head: &ApsHead, out: &mut [u8]) -> Result<usize, Refusal>
-        ensures answer { (a : VvcAps) → head.now ≡ head_of a → self.now ≡ payload a → number_of head.now.kind ≡ number_of KIND → outcome_written result out.new ≡ write_aps a out.old }
-        ensures bytes { (a : VvcAps) → head.now ≡ head_of a → self.now ≡ payload a → number_of head.now.kind ≡ number_of KIND → out.new ≡ left out.old (write_aps a out.old) };
+        ensures answer { (a : VvcAps) → head.now ≡ head_of a → self.now ≡ part a → number_of head.now.kind ≡ number_of KIND → outcome_written result out.new ≡ write_aps a out.old }
+        ensures bytes { (a : VvcAps) → head.now ≡ head_of a → self.now ≡ part a → number_of head.now.kind ≡ number_of KIND → out.new ≡ left out.old (write_aps a out.old) };
 }
 
 impl Payload for VvcAlfData {
@@ -51,15 +42,10 @@ impl Payload for VvcAlfData {
 
     ghost KIND = { ApsKind.Alf };
 
-    ghost payload = { λ a. a.alf };
+    ghost part = { λ a. a.alf };
 
-    fn read(bytes: &[u8]) -> Reading<VvcAlfData> {
-        let reading = parse_alf_rbsp(bytes);
-        Reading {
-            outcome: reading.outcome,
-            head: reading.head,
-            payload: reading.alf,
-        }
+    fn read(bytes: &[u8]) -> Result<Reading<ApsOf<Self>>, Refusal> {
+        parse_alf_rbsp(bytes)
     }
 
     fn write(&self, head: &ApsHead, out: &mut [u8]) -> Result<usize, Refusal> {
@@ -78,15 +64,10 @@ impl Payload for VvcLmcsData {
 
     ghost KIND = { ApsKind.Lmcs };
 
-    ghost payload = { λ a. a.lmcs };
+    ghost part = { λ a. a.lmcs };
 
-    fn read(bytes: &[u8]) -> Reading<VvcLmcsData> {
-        let reading = parse_lmcs_rbsp(bytes);
-        Reading {
-            outcome: reading.outcome,
-            head: reading.head,
-            payload: reading.lmcs,
-        }
+    fn read(bytes: &[u8]) -> Result<Reading<ApsOf<Self>>, Refusal> {
+        parse_lmcs_rbsp(bytes)
     }
 
     fn write(&self, head: &ApsHead, out: &mut [u8]) -> Result<usize, Refusal> {
@@ -105,15 +86,10 @@ impl Payload for VvcScalingListData {
 
     ghost KIND = { ApsKind.Scaling };
 
-    ghost payload = { λ a. a.scaling };
+    ghost part = { λ a. a.scaling };
 
-    fn read(bytes: &[u8]) -> Reading<VvcScalingListData> {
-        let reading = parse_scaling_rbsp(bytes);
-        Reading {
-            outcome: reading.outcome,
-            head: reading.head,
-            payload: reading.scaling,
-        }
+    fn read(bytes: &[u8]) -> Result<Reading<ApsOf<Self>>, Refusal> {
+        parse_scaling_rbsp(bytes)
     }
 
     fn write(&self, head: &ApsHead, out: &mut [u8]) -> Result<usize, Refusal> {
@@ -132,7 +108,7 @@ fn read_end<P: Payload>(bytes: &[u8], end: &mut [u64; 1]) -> u32
     ensures code { result ≡ code (parse_aps_rbsp bytes.now) }
     ensures end { end.new ≡ place_left (parse_aps_rbsp bytes.now) end.old }
 {
-    ended(P::read(bytes).outcome, end)
+    ended(P::read(bytes), end)
 }
 
 // A set read and written again by one kind, and its length; 2 for a set of another kind.
@@ -141,15 +117,15 @@ fn rewrite<P: Payload>(bytes: &[u8], out: &mut [u8], len: &mut [u64; 1]) -> u32
     ensures out { out.new ≡ left out.old (rewrite_of P.KIND bytes.now out.old) }
     ensures len { len.new ≡ place_left (rewrite_of P.KIND bytes.now out.old) len.old }
 {
-    let reading = P::read(bytes);
-    match reading.outcome {
-        ApsOutcome::Read(_) => {
-            if number_of(reading.head.kind) != number_of(P::KIND) {
+    match P::read(bytes) {
+        Ok(reading) => {
+            let set = reading.value;
+            if number_of(set.head.kind) != number_of(P::KIND) {
                 return 2;
             }
-            sized(reading.payload.write(&reading.head, out), len)
+            sized(set.payload.write(&set.head, out), len)
         }
-        ApsOutcome::Refused(e) => e.into(),
+        Err(e) => e.into(),
     }
 }
 

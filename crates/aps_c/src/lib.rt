@@ -5,18 +5,17 @@ ghost use Rattle.std.specs.Prelude.{◌≡◌, List, ℕ, length};
 ghost use Rattle.std.proofs.lemmas.List.Edits.{sets};
 ghost use Rattle.bitstream.specs.Outcome.{left, outcome_written};
 ghost use Rattle.bitstream.specs.Escapes.{ebsp_to_rbsp, rbsp_to_ebsp};
-ghost use Rattle.aps.specs.Reading.{outcome_read, outcome_aps};
+ghost use Rattle.aps.specs.Reading.{outcome_reading};
 ghost use Rattle.aps.specs.Rbsp.{parse_aps_rbsp};
 ghost use Rattle.aps.specs.Unit.{parse_nal_header, parse_aps, work_after};
 ghost use Rattle.aps_c.specs.Codes.{code, numbers_left, place_left, header_left, write_numbers, write_numbers_nal, rewrite};
 ghost use Rattle.aps_c.specs.Numbers.{header_numbers};
-ghost use Rattle.aps.specs.declared.aps.VvcAps.{VvcAps};
 
 pub use crate::numbers::NUMBERS;
 use crate::numbers::put_set;
 use crate::set_of::{is_set, set_of};
-use aps::aps::{ApsOutcome, ApsReading, parse_aps_head, parse_aps_rbsp};
-use aps::nal_header::{HeaderRead, VvcNalHeader, parse_nal_header};
+use aps::aps::{Reading, VvcAps, parse_aps_head, parse_aps_rbsp};
+use aps::nal_header::{VvcNalHeader, parse_nal_header};
 use aps::unit::{parse_aps, parse_unit_head};
 use aps::write::{write_aps, write_aps_nal};
 use bitstream::Refusal;
@@ -28,19 +27,22 @@ mod set_of;
 pub mod table;
 
 // The set's numbers and the bit where reading ended.
-fn answered(reading: ApsReading, set: &mut [i64; NUMBERS], end: &mut [u64; 1]) -> u32
-    ensures code { result ≡ code (outcome_aps reading) }
-    ensures set { set.new ≡ numbers_left (outcome_aps reading) set.old }
-    ensures end { end.new ≡ place_left (outcome_aps reading) end.old }
+fn answered(
+    answer: Result<Reading<VvcAps>, Refusal>,
+    set: &mut [i64; NUMBERS],
+    end: &mut [u64; 1],
+) -> u32
+    ensures code { result ≡ code (outcome_reading answer) }
+    ensures set { set.new ≡ numbers_left (outcome_reading answer) set.old }
+    ensures end { end.new ≡ place_left (outcome_reading answer) end.old }
 {
-    let outcome = reading.outcome;
-    match outcome {
-        ApsOutcome::Read(q) => {
-            put_set(&reading.set, set);
-            end[0] = q as u64;
+    match answer {
+        Ok(reading) => {
+            put_set(&reading.value, set);
+            end[0] = reading.end as u64;
             0
         }
-        ApsOutcome::Refused(e) => e.into(),
+        Err(e) => e.into(),
     }
 }
 
@@ -59,11 +61,11 @@ pub fn aps_parse_nal_header(unit: &[u8], header: &mut [u8; 5]) -> u32
     ensures header { header.new ≡ header_left (parse_nal_header unit.now) header.old }
 {
     match parse_nal_header(unit) {
-        HeaderRead::Header(h) => {
+        Ok(h) => {
             put_header(h, header);
             0
         }
-        HeaderRead::Refused(e) => e.into(),
+        Err(e) => e.into(),
     }
 }
 
@@ -75,17 +77,17 @@ pub fn aps_parse_rbsp(bytes: &[u8], set: &mut [i64; NUMBERS], end: &mut [u64; 1]
     answered(parse_aps_rbsp(bytes), set, end)
 }
 
-// The bit where reading ended, whatever the set.
-pub(crate) fn ended(outcome: ApsOutcome, end: &mut [u64; 1]) -> u32
-    ensures code { (a : VvcAps) → result ≡ code (outcome_read outcome a) }
-    ensures end { (a : VvcAps) → end.new ≡ place_left (outcome_read outcome a) end.old }
+// The bit where reading ended, whatever was read.
+pub(crate) fn ended<T: Copy>(answer: Result<Reading<T>, Refusal>, end: &mut [u64; 1]) -> u32
+    ensures code { result ≡ code (outcome_reading answer) }
+    ensures end { end.new ≡ place_left (outcome_reading answer) end.old }
 {
-    match outcome {
-        ApsOutcome::Read(q) => {
-            end[0] = q as u64;
+    match answer {
+        Ok(reading) => {
+            end[0] = reading.end as u64;
             0
         }
-        ApsOutcome::Refused(e) => e.into(),
+        Err(e) => e.into(),
     }
 }
 
@@ -94,9 +96,7 @@ pub fn aps_rbsp_end(bytes: &[u8], end: &mut [u64; 1]) -> u32
     ensures code { result ≡ code (parse_aps_rbsp bytes.now) }
     ensures end { end.new ≡ place_left (parse_aps_rbsp bytes.now) end.old }
 {
-    let reading = parse_aps_head(bytes);
-    let outcome = reading.outcome;
-    ended(outcome, end)
+    ended(parse_aps_head(bytes), end)
 }
 
 // The same for a unit.
@@ -105,9 +105,7 @@ pub fn aps_unit_end(unit: &[u8], work: &mut [u8], end: &mut [u64; 1]) -> u32
     ensures end { end.new ≡ place_left (parse_aps unit.now (length work.old)) end.old }
     ensures work { work.new ≡ work_after unit.now work.old }
 {
-    let reading = parse_unit_head(unit, work);
-    let outcome = reading.outcome;
-    ended(outcome, end)
+    ended(parse_unit_head(unit, work), end)
 }
 
 pub fn aps_parse(unit: &[u8], work: &mut [u8], set: &mut [i64; NUMBERS], end: &mut [u64; 1]) -> u32
@@ -163,11 +161,9 @@ pub fn aps_rewrite(bytes: &[u8], out: &mut [u8], len: &mut [u64; 1]) -> u32
     ensures out { out.new ≡ left out.old (rewrite bytes.now out.old) }
     ensures len { len.new ≡ place_left (rewrite bytes.now out.old) len.old }
 {
-    let reading = parse_aps_rbsp(bytes);
-    let outcome = reading.outcome;
-    match outcome {
-        ApsOutcome::Read(_) => sized(write_aps(&reading.set, out), len),
-        ApsOutcome::Refused(e) => e.into(),
+    match parse_aps_rbsp(bytes) {
+        Ok(reading) => sized(write_aps(&reading.value, out), len),
+        Err(e) => e.into(),
     }
 }
 

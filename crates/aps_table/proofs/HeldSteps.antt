@@ -1,28 +1,39 @@
 -- What a place's bytes, read as an RBSP, come to in the list.
 use mathlib.Core.Path.{◌≡◌, sym, ap, ◌∙◌}
-use mathlib.Core.Bool.{true, false}
+use mathlib.Core.Bool.{true, false, ◌&&◌}
 use mathlib.Core.List.{List}
 use mathlib.Core.Option.{Option, none, some}
 use Prim.Native.Nat.{ℕ, ◌/◌, ◌≤◌}
 use native.Mathlib.Omega.{arith}
+use lib.Dec.{eqb}
 use lib.ListN.{length, take}
 use Rattle.bitstream.specs.Outcome.{value, refused}
 use Rattle.bitstream.proofs.KeepLaws.{Bytes}
 use Rattle.aps.specs.Kinds.{most_bytes}
 use Rattle.aps.specs.Rbsp.{read_rbsp, parse_aps_rbsp}
-use Rattle.aps.specs.Reading.{outcome_read}
-use Rattle.aps.specs.declared.aps.ApsOutcome.{ApsOutcome}
+use Rattle.aps.specs.ApsSyntax.{number_of}
+use Rattle.aps.specs.Reading.{head_of}
+use Rattle.aps.specs.declared.aps.ApsHead.{ApsHead}
 use Rattle.aps.specs.declared.aps.VvcAps.{VvcAps}
-use Rattle.aps.proofs.Answers.{answered}
 use Rattle.aps.proofs.RbspLaws.{rbsp-sound, read-write}
 use Rattle.aps.proofs.RbspSteps.{in-limits}
-use Rattle.aps_table.specs.Places.{extended}
+use Rattle.aps_table.specs.Places.{Names, place_bytes, under, held, extended}
 use Rattle.aps_table.specs.List.{coded, entry, joined}
+use Rattle.aps_table.proofs.PlaceSteps.{place-few, held-read}
 use Rattle.aps_table.proofs.ListLaws.{joined-last, due-extended, due-plain}
 
--- in an arm of the `match` on what reading comes to: the definition gives it too
-pub read_as : (s : List ℕ) (a : VvcAps) {r x : ApsOutcome} → length s ≤ most_bytes 2 → outcome_read r a ≡ parse_aps_rbsp s → r ≡ x → read_rbsp s ≡ outcome_read x a
-read_as s a l f e = sym (in-limits s (omega arith)) ∙ answered (λ (o : ApsOutcome). outcome_read o a) e f
+-- a place holds what its bytes are read as
+module _ (t s : List ℕ) (k i : ℕ) (n : Names k i) (b : s ≡ place_bytes t k i) where
+  pub as-read : parse_aps_rbsp s ≡ read_rbsp s
+  as-read = in-limits s (omega (arith, (place-few t s k i n b).1))
+
+  pub held-as : held t k i ≡ under k i (parse_aps_rbsp s)
+  held-as = held-read t s k i b ∙ ap (under k i) (sym as-read)
+
+-- a head tells whether its set is of a kind and an id
+pub own-head : (k i : ℕ) {h : ApsHead} (a : VvcAps) → h ≡ head_of a
+    → (eqb (number_of h.kind) k && eqb h.aps_adaptation_parameter_set_id i) ≡ (eqb (number_of a.kind) k && eqb a.aps_adaptation_parameter_set_id i)
+own-head k i a e = ap (λ h. eqb (number_of h.kind) k && eqb h.aps_adaptation_parameter_set_id i) e
 
 -- no set: the bytes stay
 pub held_none : (l : List ℕ) (p : ℕ) {h : Option VvcAps} → h ≡ none → value l p ≡ joined (value l p) (entry h)

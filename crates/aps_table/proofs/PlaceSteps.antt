@@ -104,14 +104,14 @@ held-read table bytes k i e = rw e
 
 module _ (k i : ℕ) (a : VvcAps) {q : ℕ} {o : Outcome VvcAps} (e : o ≡ value a q) {b : Bool} (f : b ≡ (eqb (number_of a.kind) k && eqb a.aps_adaptation_parameter_set_id i)) where
   -- a place with a set of another kind or id is empty
-  pub under-other : not b ≡ true → under k i o ≡ none
+  pub under-other : b ≡ false → under k i o ≡ none
   unfolding kind_in id_in
-  under-other h = ap (under k i) e ∙ rw (← f, not-true b h)
+  under-other h = ap (under k i) e ∙ rw (← f, h)
 
   -- a set of its own is held
-  pub under-own : not b ≡ false → under k i o ≡ some a
+  pub under-own : b ≡ true → under k i o ≡ some a
   unfolding kind_in id_in
-  under-own h = ap (under k i) e ∙ rw (← f, not-false b h)
+  under-own h = ap (under k i) e ∙ rw (← f, h)
 
 module _ (table : List ℕ) (k i : ℕ) where
   -- with a kind and an id that name no place nothing is looked up

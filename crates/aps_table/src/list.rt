@@ -9,7 +9,7 @@ ghost use Rattle.aps_table.specs.Inner.{up_to, most_listed, list_bytes};
 
 use crate::places::{ALF_PLACES, LMCS_PLACES, PLACES, Place, SCALING_PLACES, Table};
 use crate::table::head_held;
-use aps::aps::{Alf, ApsOutcome, Lmcs, Scaling, number_of, parse_aps_head};
+use aps::aps::{Alf, Lmcs, Scaling, number_of, parse_aps_head};
 use aps::nal_header::NAL_TYPE_PREFIX_APS;
 use aps::write::{copy_out, write_nal};
 use bitstream::Refusal;
@@ -41,21 +41,16 @@ fn put_place(table: &Table, place: Place, buffer: &mut [u8], at: usize) -> Resul
     ensures same { length buffer.new ≡ length buffer.old }
 {
     let bytes = place.bytes(table);
-    let reading = parse_aps_head(bytes);
-    let outcome = reading.outcome;
-    let head = reading.head;
-    match outcome {
-        ApsOutcome::Read(end) => {
-            if !place.is_of(head.kind, head.aps_adaptation_parameter_set_id) {
-                return Ok(at);
-            }
+    if let Ok(reading) = parse_aps_head(bytes) {
+        let head = reading.value;
+        if place.is_of(head.kind, head.aps_adaptation_parameter_set_id) {
             if head.aps_extension_flag {
                 return Err(Refusal::Unsupported);
             }
-            put_unit(buffer, at, &bytes[..end / 8])
+            return put_unit(buffer, at, &bytes[..reading.end / 8]);
         }
-        ApsOutcome::Refused(_) => Ok(at),
     }
+    Ok(at)
 }
 
 // All 20 places.

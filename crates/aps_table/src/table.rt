@@ -11,7 +11,7 @@ ghost use Rattle.aps_table.specs.Answers.{unit_answer, stream_answer, lookup_ans
 
 use crate::places::{Place, Table};
 use crate::split::{check_split, next_unit};
-use aps::aps::{ApsHead, ApsOutcome, VvcAps, parse_aps_head, parse_aps_rbsp};
+use aps::aps::{ApsHead, VvcAps, parse_aps_head, parse_aps_rbsp};
 use aps::unit::{is_aps, parse_unit_head};
 use bitstream::{LONGEST_INPUT, Refusal};
 
@@ -73,20 +73,14 @@ fn take_aps(table: &mut Table, unit: &[u8], work: &mut [u8]) -> Result<Taken, Re
     ensures table { table.new ≡ table_after (alone unit.now (length work.old)) table.old }
     ensures work { work.new ≡ work_after unit.now work.old }
 {
-    let reading = parse_unit_head(unit, work);
-    let outcome = reading.outcome;
-    let head = reading.head;
-    match outcome {
-        ApsOutcome::Read(end) => {
-            let place = Place {
-                kind: head.kind,
-                id: head.aps_adaptation_parameter_set_id,
-            };
-            place.store(table, &work[..(end + 7) / 8]);
-            Ok(Taken::Accepted)
-        }
-        ApsOutcome::Refused(why) => Err(why),
-    }
+    let reading = parse_unit_head(unit, work)?;
+    let head = reading.value;
+    let place = Place {
+        kind: head.kind,
+        id: head.aps_adaptation_parameter_set_id,
+    };
+    place.store(table, &work[..(reading.end + 7) / 8]);
+    Ok(Taken::Accepted)
 }
 
 // A unit alone: 4; 1; passed over; then as `parse_aps`.
@@ -142,18 +136,13 @@ pub fn take_stream(table: &mut Table, bytes: &[u8], work: &mut [u8]) -> Result<C
 fn set_held(table: &Table, place: Place) -> Result<VvcAps, Refusal>
     ensures { lookup_answer result ≡ found_in (held table.now (number_of place.kind) place.id) }
 {
-    let reading = parse_aps_rbsp(place.bytes(table));
-    let outcome = reading.outcome;
-    let set = reading.set;
-    match outcome {
-        ApsOutcome::Read(_) => {
-            if !place.is_of(set.kind, set.aps_adaptation_parameter_set_id) {
-                return Err(Refusal::EmptyPlace);
-            }
-            Ok(set)
+    if let Ok(reading) = parse_aps_rbsp(place.bytes(table)) {
+        let set = reading.value;
+        if place.is_of(set.kind, set.aps_adaptation_parameter_set_id) {
+            return Ok(set);
         }
-        ApsOutcome::Refused(_) => Err(Refusal::EmptyPlace),
     }
+    Err(Refusal::EmptyPlace)
 }
 
 // The set held for a kind and an id: 2; 6.
@@ -167,18 +156,13 @@ pub fn lookup(table: &Table, kind: u8, id: u8) -> Result<VvcAps, Refusal>
 pub(crate) fn head_held(table: &Table, place: Place) -> Result<ApsHead, Refusal>
     ensures { head_answer result ≡ head_looked (found_in (held table.now (number_of place.kind) place.id)) }
 {
-    let reading = parse_aps_head(place.bytes(table));
-    let outcome = reading.outcome;
-    let head = reading.head;
-    match outcome {
-        ApsOutcome::Read(_) => {
-            if !place.is_of(head.kind, head.aps_adaptation_parameter_set_id) {
-                return Err(Refusal::EmptyPlace);
-            }
-            Ok(head)
+    if let Ok(reading) = parse_aps_head(place.bytes(table)) {
+        let head = reading.value;
+        if place.is_of(head.kind, head.aps_adaptation_parameter_set_id) {
+            return Ok(head);
         }
-        ApsOutcome::Refused(_) => Err(Refusal::EmptyPlace),
     }
+    Err(Refusal::EmptyPlace)
 }
 
 // Of the set held for a kind and an id its head, and no array: 2; 6.

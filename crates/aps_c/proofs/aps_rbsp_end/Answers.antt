@@ -1,14 +1,14 @@
--- `aps_rbsp_end`: the library's answer, by its outcome alone.
+-- `aps_rbsp_end`: the library's answer, its value left out.
 use mathlib.Core.Path.{◌∙◌, ap}
-use Rattle.bitstream.specs.Outcome.{Outcome}
 use Rattle.aps.specs.Rbsp.{parse_aps_rbsp}
-use Rattle.aps.specs.Reading.{set_given}
-use Rattle.aps.specs.declared.aps.VvcAps.{VvcAps}
+use Rattle.aps.specs.Reading.{head_of}
 use Rattle.aps_c.specs.Codes.{code, place_left}
+use Rattle.aps_c.proofs.CodeLaws.{code-mapped, place-mapped}
 use Rattle.aps_c.proofs.aps_rbsp_end.Goals as goal
 
 pub returns : goal.returns
 returns c =
-    let a = set_given (parse_aps_rbsp c.args.bytes.now) in
-    let e = c.parse_aps_head-reading.ensures.answer in
-    record { code = c.ended.ensures.code a ∙ ap code e; end = c.ended.ensures.end a ∙ ap (λ (o : Outcome VvcAps). place_left o c.args.end.now) e }
+    let b = c.args in
+    let o = parse_aps_rbsp b.bytes.now in
+    let e = c.parse_aps_head.ensures in
+    record { code = c.ended.ensures.code ∙ ap code e ∙ code-mapped head_of o; end = c.ended.ensures.end ∙ ap (λ x. place_left x b.end.now) e ∙ place-mapped head_of o b.end.now }

@@ -1,15 +1,19 @@
--- `aps_unit_end`: the library's answer, by its outcome alone.
+-- `aps_unit_end`: the library's answer, its value left out.
 use mathlib.Core.Path.{◌∙◌, ap}
 use lib.ListN.{length}
-use Rattle.bitstream.specs.Outcome.{Outcome}
 use Rattle.aps.specs.Unit.{parse_aps}
-use Rattle.aps.specs.Reading.{set_given}
-use Rattle.aps.specs.declared.aps.VvcAps.{VvcAps}
+use Rattle.aps.specs.Reading.{head_of}
 use Rattle.aps_c.specs.Codes.{code, place_left}
+use Rattle.aps_c.proofs.CodeLaws.{code-mapped, place-mapped}
 use Rattle.aps_c.proofs.aps_unit_end.Goals as goal
 
 pub returns : goal.returns
 returns c =
-    let a = set_given (parse_aps c.args.unit.now (length c.args.work.now)) in
-    let e = c.parse_unit_head-reading.ensures.answer in
-    record { code = c.ended.ensures.code a ∙ ap code e; end = c.ended.ensures.end a ∙ ap (λ (o : Outcome VvcAps). place_left o c.args.end.now) e; work = c.parse_unit_head-reading.ensures.work }
+    let b = c.args in
+    let o = parse_aps b.unit.now (length b.work.now) in
+    let k = c.parse_unit_head.ensures in
+    record {
+      code = c.ended.ensures.code ∙ ap code k.answer ∙ code-mapped head_of o;
+      end = c.ended.ensures.end ∙ ap (λ x. place_left x b.end.now) k.answer ∙ place-mapped head_of o b.end.now;
+      work = k.work;
+    }

@@ -1,58 +1,56 @@
 -- `take_aps`: the unit is read; its set's bytes go to the set's place.
-use mathlib.Core.Path.{◌≡◌, sym, ◌∙◌}
+use Rattle.std.proofs.Common.{rules}
+use Rattle.std.specs.Prelude.{Err}
+use mathlib.Core.Path.{◌≡◌, sym, ap, ◌∙◌}
 use native.Mathlib.Omega.{arith}
 use lib.ListN.{length}
 use lib.Seq.{length-take-le}
-use Rattle.bitstream.specs.Outcome.{Outcome, value}
-use Rattle.aps.specs.Reading.{outcome_read, set_given}
 use Rattle.aps.specs.Unit.{parse_aps}
-use Rattle.aps.specs.declared.aps.VvcAps.{VvcAps}
-use Rattle.aps.proofs.Answers.{answered}
+use Rattle.aps.specs.Reading.{head_of}
+use Rattle.aps.proofs.Answers.{Made, made, unmade}
+use Rattle.aps_table.specs.Answers.{unit_answer}
 use Rattle.aps_table.proofs.TakeSteps.{refuses, read-few, bytes-within, head-named, bytes_fit, stores}
 use Rattle.aps_table.proofs.table.take_aps.Goals as goal
-use Rattle.aps_table.proofs.table.take_aps.Goals.{In-Read}
-
--- what the unit is read as
-abbrev reading : (c : In-Read) → Outcome VvcAps
-reading c =
-    let a = c.args in parse_aps a.unit.now (length a.work.now)
+use Rattle.aps_table.proofs.table.take_aps.Goals.{In_ok-reading}
 
 -- the set that was read
-was_read : (c : In-Read) → (reading c) ≡ value (set_given (reading c)) c.in-Read.end
-was_read c =
-    answered (λ o. outcome_read o (set_given (reading c))) c.in-Read.is c.parse_unit_head-reading.ensures.answer
+read-set : (c : In_ok-reading) → let r = c.in_ok-reading.reading in Made head_of r.value r.end (parse_aps c.args.unit.now (length c.args.work.now))
+read-set c = made head_of _ c.in_ok-reading.ensures.answer
+
+pub returns-in_err-reading : goal.returns-in_err-reading
+returns-in_err-reading c =
+    let a = c.args in
+    let e : c.from_residual.result ≡ Err c.in_err-reading.field-0.0 = search rules in
+    let d = refuses a.unit.now a.work.now a.table.now c.requires _ (unmade head_of _ c.in_err-reading.ensures.answer) in
+    record { answer = ap unit_answer e ∙ d.0; table = d.1; work = c.in_err-reading.ensures.work }
 
 pub invariant_of-place : goal.invariant_of-place
 invariant_of-place c =
-    let k = c.parse_unit_head-reading.ensures in
-    record { named = head-named c.args.unit.now c.args.work.now _ _ (was_read (goal.at.invariant_of-place c).In-Read) _ k.work _ k.head }
+    let m = read-set (goal.at.invariant_of-place c).In_ok-reading in
+    record { named = head-named c.args.unit.now c.args.work.now _ _ m.read _ c.in_ok-reading.ensures.work _ m.is }
 
-pub overflow_add-end : goal.overflow_add-end
-overflow_add-end c =
-    omega (arith, read-few c.args.unit.now c.args.work.now _ _ (was_read (goal.at.overflow_add-end c).In-Read))
+pub overflow_add-reading : goal.overflow_add-reading
+overflow_add-reading c =
+    let m = read-set (goal.at.overflow_add-reading c).In_ok-reading in
+    omega (arith, read-few c.args.unit.now c.args.work.now _ _ m.read)
 
 pub slice_bounds-store-end : goal.slice_bounds-store-end
 slice_bounds-store-end c =
-    bytes-within c.args.unit.now c.args.work.now _ _ (was_read (goal.at.slice_bounds-store-end c).In-Read) _ c.parse_unit_head-reading.ensures.work
+    let m = read-set (goal.at.slice_bounds-store-end c).In_ok-reading in
+    bytes-within c.args.unit.now c.args.work.now _ _ m.read _ c.in_ok-reading.ensures.work
 
-pub slice_bounds-store-end-in-Read : goal.slice_bounds-store-end-in-Read
-slice_bounds-store-end-in-Read c =
-    sym (length-take-le _ _ (bytes-within c.args.unit.now c.args.work.now _ _ (was_read (goal.at.slice_bounds-store-end-in-Read c).In-Read) _ c.parse_unit_head-reading.ensures.work))
+pub slice_bounds-store-end-2 : goal.slice_bounds-store-end-2
+slice_bounds-store-end-2 c =
+    let m = read-set (goal.at.slice_bounds-store-end-2 c).In_ok-reading in
+    sym (length-take-le _ _ (bytes-within c.args.unit.now c.args.work.now _ _ m.read _ c.in_ok-reading.ensures.work))
 
 pub store-requires : goal.store-requires
 store-requires c =
-    let k = c.parse_unit_head-reading.ensures in
-    bytes_fit c.args.unit.now c.args.work.now _ _ (was_read (goal.at.store-requires c).In-Read) _ k.work _ k.head
+    let m = read-set (goal.at.store-requires c).In_ok-reading in
+    bytes_fit c.args.unit.now c.args.work.now _ _ m.read _ c.in_ok-reading.ensures.work _ m.is
 
-pub returns-in-Read : goal.returns-in-Read
-returns-in-Read c =
-    let k = c.parse_unit_head-reading.ensures in
-    let d = stores c.args.unit.now c.args.work.now _ _ (was_read (goal.at.returns-in-Read c).In-Read) _ k.work _ k.head c.args.table.now c.requires in
-    record { answer = d.0; table = c.store.ensures ∙ d.1; work = k.work }
-
-pub returns-in-Refused : goal.returns-in-Refused
-returns-in-Refused c =
-    let k = c.parse_unit_head-reading in
-    let a = set_given (parse_aps c.args.unit.now (length c.args.work.now)) in
-    let d = refuses c.args.unit.now c.args.work.now c.args.table.now c.requires _ (answered (λ o. outcome_read o a) c.in-Refused.is k.ensures.answer) in
-    record { answer = d.0; table = d.1; work = k.ensures.work }
+pub returns : goal.returns
+returns c =
+    let m = read-set (goal.at.returns c).In_ok-reading in
+    let d = stores c.args.unit.now c.args.work.now _ _ m.read _ c.in_ok-reading.ensures.work _ m.is c.args.table.now c.requires in
+    record { answer = d.0; table = c.store.ensures ∙ d.1; work = c.in_ok-reading.ensures.work }
