@@ -17,7 +17,7 @@ use Rattle.aps.specs.AlfSyntax.{alf}
 use Rattle.aps.specs.LmcsSyntax.{lmcs}
 use Rattle.aps.specs.ScalingSyntax.{Entry, scaling_syntax, keep}
 use Rattle.aps.specs.ApsSyntax.{zero_alf, zero_lmcs, zero_scaling, Payload, of_alf, of_lmcs, of_scaling, payload, aps_syntax, to_aps, aps}
-use Rattle.std.specs.Prelude.{Result, Ok}
+use Rattle.std.specs.Prelude.{Result}
 use Rattle.std.specs.Result.{IsErrAnd}
 use Rattle.std.proofs.lemmas.Result.{err_from_is_err_and}
 use Rattle.aps.specs.declared.aps.ApsHead.{ApsHead}

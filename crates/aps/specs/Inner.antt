@@ -7,7 +7,7 @@ use Rattle.bitstream.specs.declared.Refusal.{Refusal}
 use Rattle.bitstream.specs.declared.Refusal.TheVariants.{Unsupported}
 use Rattle.aps.specs.Elements.{flag}
 use Rattle.aps.specs.ApsSyntax.{number_of, zero_alf, zero_lmcs, zero_scaling}
-use Rattle.aps.specs.Rbsp.{closed, read_rbsp, parse_aps_rbsp}
+use Rattle.aps.specs.Rbsp.{closed, parse_aps_rbsp}
 use Rattle.aps.specs.Reading.{head_of}
 use Rattle.aps.specs.Reads.{filled}
 use Rattle.aps.specs.declared.alf.VvcAlfLuma.{VvcAlfLuma}

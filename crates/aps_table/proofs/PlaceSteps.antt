@@ -1,7 +1,7 @@
 -- The places of the table: where each stands, bytes put into it and taken out of it, and the set that it holds.
-use borrow.Author.Tests.{leb-true, leb-false, lt-ltb, le-leb, le-ltb, lt-leb, not-true, not-false}
+use borrow.Author.Tests.{leb-true, leb-false, lt-ltb, le-leb, le-ltb, lt-leb}
 use mathlib.Core.Path.{◌≡◌, refl, sym, ap, ◌∙◌}
-use mathlib.Core.Bool.{Bool, true, false, not, ◌&&◌, and-false}
+use mathlib.Core.Bool.{Bool, true, false, ◌&&◌, and-false}
 use mathlib.Core.List.{List, [], ◌∷◌, ◌++◌, append-nil, append_assoc}
 use mathlib.Core.Option.{none, some}
 use Prim.Native.Nat.{ℕ, zero, suc, ◌+◌, ◌-◌, ◌≤◌, ◌<◌}

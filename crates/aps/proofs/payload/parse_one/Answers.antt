@@ -2,7 +2,7 @@
 use Rattle.std.proofs.Common.{rules, ◌≡◌, Err}
 use mathlib.Core.Path.{sym, ap, ◌∙◌}
 use Rattle.bitstream.specs.Outcome.{map_outcome}
-use denote.Enum.Bare.{differs_true, differs_false}
+use denote.Enum.Bare.{differs_true}
 use Rattle.aps.specs.contracts.aps.ApsKind.{the_type}
 use Rattle.aps.proofs.Answers.{mapped}
 use Rattle.aps.proofs.RbspSteps.{opened}

@@ -1,11 +1,9 @@
 -- `parse_aps`: what the RBSP in the work buffer is read as.
 use Rattle.std.proofs.Common.{rules, ◌≡◌, Ok, Err}
-use mathlib.Core.Path.{sym, ap, ◌∙◌}
+use mathlib.Core.Path.{sym, ◌∙◌}
 use lib.ListN.{length}
 use lib.Seq.{length-take-le}
-use Rattle.bitstream.specs.Outcome.{map_outcome}
 use Rattle.aps.specs.Inner.{Unwrapped}
-use Rattle.aps.specs.Reading.{head_of}
 use Rattle.aps.specs.Unit.{parse_aps}
 use Rattle.aps.proofs.unit.parse_aps.Goals as goal
 use Rattle.aps.proofs.unit.parse_aps.Goals.{In_ok-n}

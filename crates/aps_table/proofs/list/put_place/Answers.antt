@@ -3,11 +3,10 @@ use mathlib.Core.Path.{◌≡◌, sym, ap, ◌∙◌}
 use mathlib.Core.Bool.{true}
 use mathlib.Core.Option.{some}
 use native.Mathlib.Omega.{arith}
-use Prim.Native.Nat.{◌/◌, ◌≤◌}
-use lib.ListN.{length, take, length-take}
+use Prim.Native.Nat.{◌/◌}
+use lib.ListN.{take, length-take}
 use lib.Seq.{length-take-le}
 use Rattle.bitstream.specs.Outcome.{value}
-use Rattle.aps.specs.Kinds.{most_bytes}
 use Rattle.aps.specs.ApsSyntax.{number_of}
 use Rattle.aps.specs.Rbsp.{read_rbsp, parse_aps_rbsp}
 use Rattle.aps.specs.Reading.{head_of}

@@ -1,15 +1,9 @@
 -- `head_held`: what the bytes of the place are read as, then whether the set is its own.
 use Rattle.std.specs.Prelude.{Ok}
-use mathlib.Core.Path.{◌≡◌, sym, ap, ◌∙◌}
-use mathlib.Core.Bool.{◌&&◌}
-use mathlib.Core.Option.{Option}
-use lib.Dec.{eqb}
+use mathlib.Core.Path.{sym, ap, ◌∙◌}
 use Rattle.aps.specs.ApsSyntax.{number_of}
-use Rattle.aps.specs.Rbsp.{parse_aps_rbsp}
 use Rattle.aps.specs.Reading.{head_of}
-use Rattle.aps.specs.declared.aps.ApsHead.{ApsHead}
-use Rattle.aps.specs.declared.aps.VvcAps.{VvcAps}
-use Rattle.aps.proofs.Answers.{Made, made, unmade}
+use Rattle.aps.proofs.Answers.{made, unmade}
 use Rattle.aps_table.specs.Places.{found_in, under}
 use Rattle.aps_table.specs.Answers.{head_looked}
 use Rattle.aps_table.proofs.PlaceSteps.{names-of, under-other, under-own}
