@@ -1,12 +1,8 @@
--- What an answer that was taken apart says of the definition it equals.
-use mathlib.Core.Path.{◌≡◌, refl, sym, ap, ◌∙◌}
+-- What a value made of another says of the outcome that gave the other.
+use mathlib.Core.Path.{◌≡◌, refl, ap}
 use Prim.Native.Nat.{ℕ}
 use native.Mathlib.Omega.{arith}
 use Rattle.bitstream.specs.Outcome.{Outcome, value, refused, map_outcome}
-
--- in an arm of a `match` on r: what the definition gives there
-pub answered : {F O : Type 0} (outcome : F → O) {r x : F} {o : O} → r ≡ x → outcome r ≡ o → o ≡ outcome x
-answered outcome e f = sym f ∙ ap outcome e
 
 -- what is made of the value that o gives
 pub mapped : {A B : Type 0} (f : A → B) {a : A} {b : B} {q t : ℕ} {o : Outcome A} → value a q ≡ o → f a ≡ b → t ≡ q → value b t ≡ map_outcome f o
@@ -18,6 +14,7 @@ pub record Made {A B : Type 0} (f : A → B) (b : B) (q : ℕ) (o : Outcome A) :
   pub read : o ≡ value from q
   pub is : b ≡ f from
 
+-- where a value was made, one was given
 pub made : {A B : Type 0} (f : A → B) (o : Outcome A) {b : B} {q : ℕ} → value b q ≡ map_outcome f o → Made f b q o
 made f (value a r) {b} {q} e = let (g, h) : (b ≡ f a) × (q ≡ r) = (cc, cc) in record { from = a; read = rw h refl; is = g }
 made f (refused n) e = let z : ◌≡◌ {A = ℕ} 0 1 = cc in absurd (omega arith)
