@@ -64,6 +64,8 @@ fn scan_on(s: &[u8], e: usize) -> Scan
 }
 
 // Where the unit that starts at `start` ends.
+// A call by itself, so that its loop is laid out alone.
+#[inline(never)]
 fn unit_end(s: &[u8], start: usize) -> usize
     requires { (start ≤ length s.now) × (length s.now ≤ 65536) }
     ensures { UnitEnd s.now start result }
