@@ -1,10 +1,9 @@
 -- For the proofs' sake: what the inner functions promise each other on the way. No public contract says anything of this file.
-use Rattle.std.specs.Prelude.{◌≡◌, Bool, false, cond, not, List, [], ◌∷◌, ℕ, ◌*◌, ◌/◌, ◌%◌, ◌^◌, ◌≤◌, ◌<◌, Result, Ok, Err, eqb, ltb, length, take}
+use Rattle.std.specs.Prelude.{◌≡◌, Bool, false, cond, not, List, [], ◌∷◌, ℕ, ◌*◌, ◌/◌, ◌%◌, ◌^◌, ◌≤◌, Result, Ok, Err, eqb, ltb, length, take}
 use Rattle.bitstream.specs.Outcome.{Outcome, value, refused, number, ◌then◌}
 use Rattle.bitstream.specs.Bits.{field_at}
 use Rattle.bitstream.specs.Fields.{lacks, read_trailing}
 use Rattle.bitstream.specs.declared.Refusal.{Refusal}
-use Rattle.bitstream.specs.declared.Refusal.TheVariants.{Unsupported}
 use Rattle.aps.specs.Elements.{flag}
 use Rattle.aps.specs.ApsSyntax.{number_of, zero_alf, zero_lmcs, zero_scaling}
 use Rattle.aps.specs.Rbsp.{closed, parse_aps_rbsp}
@@ -121,11 +120,6 @@ pub record Passes (r : Result (Unit {0}) Refusal) (h : ApsHead) (q : ℕ) (o : O
 abbrev pub Opens : List ℕ → Result (Reader × ApsHead) Refusal → Type 0
 Opens s (Ok x) = (length s ≤ 65536) × (x.0.bytes.now ≡ s) × (x.0.at ≡ 9) × Heading s x.1
 Opens s (Err why) = parse_aps_rbsp s ≡ refused (number why)
-
--- the kind of a number; 3: there is none
-abbrev pub Names : ℕ → Result ApsKind Refusal → Type 0
-Names n (Ok kind) = n ≡ number_of kind
-Names n (Err why) = (2 < n) × (why ≡ Unsupported)
 
 -- the RBSP of the unit that o is the answer to stands at the start of the work buffer, or there is none
 abbrev pub Unwrapped : Result ℕ Refusal → Outcome VvcAps → List ℕ → Type 0

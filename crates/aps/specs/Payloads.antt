@@ -1,6 +1,15 @@
 -- What the payloads of the three kinds prove of the sets that they make.
-use Rattle.std.specs.Prelude.{◌≡◌, refl}
-use Rattle.aps.specs.ApsSyntax.{zero_alf, zero_lmcs, zero_scaling}
+use mathlib.Core.Path.{sym, ap, ◌∙◌}
+use Rattle.std.specs.Prelude.{◌≡◌, refl, Bool, true, cond, ◌&&◌, List, ◌++◌, ℕ, length}
+use Rattle.bitstream.specs.Outcome.{Outcome, value, refused, ◌then◌}
+use Rattle.bitstream.specs.Bits.{pack}
+use Rattle.bitstream.specs.Fields.{trailing_bits}
+use Rattle.bitstream.specs.Escapes.{put_bytes}
+use Rattle.aps.specs.Codec.{via}
+use Rattle.aps.specs.ApsSyntax.{ApsData, aps_syntax, aps, from_aps, of_alf, of_lmcs, of_scaling, payload_of, number_of, zero_alf, zero_lmcs, zero_scaling}
+use Rattle.aps.specs.Rbsp.{rbsp_bits, rbsp_bytes}
+use Rattle.aps.specs.ScalingSyntax.{look}
+use Rattle.aps.specs.Writing.{rbsp_due, bytes_due, alf_set, lmcs_set, scaling_set, write_aps}
 use Rattle.aps.specs.Inner.{assembled, Bare, BareAs}
 use Rattle.aps.specs.declared.alf.VvcAlfData.{VvcAlfData}
 use Rattle.aps.specs.declared.lmcs.VvcLmcsData.{VvcLmcsData}
@@ -43,3 +52,52 @@ other_scaling a b n = go a.kind b n
     go ApsKind.Alf b n = b.1
     go ApsKind.Lmcs b n = b.1
     go ApsKind.Scaling b n = absurd (n refl)
+
+-- what is sent of a set with the arrays of one kind alone
+pub alone_alf : (id : ℕ) (chroma extension : Bool) (d : VvcAlfData) → from_aps (alf_set id chroma extension d) ≡ (0, (id, (chroma, (of_alf d, extension))))
+unfolding from_aps alf_set
+alone_alf id chroma extension d = refl
+
+pub alone_lmcs : (id : ℕ) (chroma extension : Bool) (d : VvcLmcsData) → from_aps (lmcs_set id chroma extension d) ≡ (1, (id, (chroma, (of_lmcs d, extension))))
+unfolding from_aps lmcs_set
+alone_lmcs id chroma extension d = refl
+
+pub alone_scaling : (id : ℕ) (chroma extension : Bool) (d : VvcScalingListData) → from_aps (scaling_set id chroma extension d) ≡ (2, (id, (chroma, (of_scaling (look chroma d), extension))))
+unfolding from_aps scaling_set
+alone_scaling id chroma extension d = refl
+
+-- what is sent of a set, by its kind
+abbrev sent : VvcAps → ApsKind → ApsData
+sent a k = (number_of k, (a.aps_adaptation_parameter_set_id, (a.aps_chroma_present_flag, (payload_of k a.aps_chroma_present_flag a.alf a.lmcs a.scaling, a.aps_extension_flag))))
+
+-- the arrays of its own kind are enough
+module _ (a : VvcAps) where
+  pub sent_alf : a.kind ≡ ApsKind.Alf
+      → from_aps (alf_set a.aps_adaptation_parameter_set_id a.aps_chroma_present_flag a.aps_extension_flag a.alf) ≡ from_aps a
+  unfolding from_aps alf_set
+  sent_alf e = ap (sent a) (sym e)
+
+  pub sent_lmcs : a.kind ≡ ApsKind.Lmcs
+      → from_aps (lmcs_set a.aps_adaptation_parameter_set_id a.aps_chroma_present_flag a.aps_extension_flag a.lmcs) ≡ from_aps a
+  unfolding from_aps lmcs_set
+  sent_lmcs e = ap (sent a) (sym e)
+
+  pub sent_scaling : a.kind ≡ ApsKind.Scaling
+      → from_aps (scaling_set a.aps_adaptation_parameter_set_id a.aps_chroma_present_flag a.aps_extension_flag a.scaling) ≡ from_aps a
+  unfolding from_aps scaling_set
+  sent_scaling e = ap (sent a) (sym e)
+
+-- the bytes due by what is sent
+abbrev due : ApsData → Outcome (List ℕ)
+due x =
+    cond x.1.1.1.1 (refused 3)
+    (cond (aps_syntax.ok x && true) (value (pack (aps_syntax.emit x ++ trailing_bits (length (aps_syntax.emit x)))) (length (pack (aps_syntax.emit x ++ trailing_bits (length (aps_syntax.emit x)))))) (refused 2))
+
+due-sent : (a : VvcAps) → bytes_due a ≡ due (from_aps a)
+unfolding bytes_due rbsp_due rbsp_bytes rbsp_bits aps via from_aps
+due-sent a = refl
+
+-- sets of which the same is sent are written alike
+pub alike : (a b : VvcAps) (out : List ℕ) → from_aps a ≡ from_aps b → write_aps a out ≡ write_aps b out
+unfolding write_aps
+alike a b out e = ap (λ (o : Outcome (List ℕ)). o then λ bytes n. put_bytes out bytes) (due-sent a ∙ ap due e ∙ sym (due-sent b))

@@ -1,18 +1,26 @@
 -- What the readers answer: a value and the bit where reading ended, or a refusal's number.
-use Rattle.std.specs.Prelude.{Result, Ok, Err}
+use Rattle.std.specs.Prelude.{◌≡◌, ℕ, ◌<◌, Result, Ok, Err}
 use Rattle.bitstream.specs.Outcome.{Outcome, value, refused, number}
 use Rattle.bitstream.specs.declared.Refusal.{Refusal}
+use Rattle.bitstream.specs.declared.Refusal.TheVariants.{Unsupported}
+use Rattle.aps.specs.ApsSyntax.{number_of}
 use Rattle.aps.specs.declared.alf.VvcAlfData.{VvcAlfData}
 use Rattle.aps.specs.declared.lmcs.VvcLmcsData.{VvcLmcsData}
 use Rattle.aps.specs.declared.scaling_list.VvcScalingListData.{VvcScalingListData}
 use Rattle.aps.specs.declared.aps.VvcAps.{VvcAps}
 use Rattle.aps.specs.declared.aps.Reading.{Reading}
 use Rattle.aps.specs.declared.aps.ApsHead.{ApsHead}
+use Rattle.aps.specs.declared.aps.ApsKind.{ApsKind}
 use Rattle.aps.specs.declared.payload.ApsOf.{ApsOf}
 
 abbrev pub outcome_reading : {A : Type 0} → Result (Reading A) Refusal → Outcome A
 outcome_reading (Ok r) = value r.value r.end
 outcome_reading (Err e) = refused (number e)
+
+-- the kind of a number; 3: there is none
+abbrev pub kind_named : ℕ → Result ApsKind Refusal → Type 0
+kind_named n (Ok kind) = n ≡ number_of kind
+kind_named n (Err why) = (2 < n) × (why ≡ Unsupported)
 
 -- a set without its arrays
 abbrev pub head_of : VvcAps → ApsHead

@@ -52,53 +52,61 @@ pub struct VvcAlfData {
 }
 
 // What is inferred where nothing is sent.
-pub(crate) fn no_luma() -> VvcAlfLuma
-    ensures { result ≡ to_luma no_luma.default }
-{
-    VvcAlfLuma {
-        alf_luma_clip_flag: false,
-        alf_luma_num_filters_signalled_minus1: 0,
-        alf_luma_coeff_delta_idx: [0; 25],
-        coeff_abs: [0; 300],
-        coeff_sign: [false; 300],
-        clip_idx: [0; 300],
+impl Default for VvcAlfLuma {
+    ghost is_default = { λ d. d ≡ to_luma no_luma.default };
+
+    fn default() -> Self {
+        VvcAlfLuma {
+            alf_luma_clip_flag: false,
+            alf_luma_num_filters_signalled_minus1: 0,
+            alf_luma_coeff_delta_idx: [0; 25],
+            coeff_abs: [0; 300],
+            coeff_sign: [false; 300],
+            clip_idx: [0; 300],
+        }
     }
 }
 
-pub(crate) fn no_chroma() -> VvcAlfChroma
-    ensures { result ≡ to_chroma no_chroma.default }
-{
-    VvcAlfChroma {
-        alf_chroma_clip_flag: false,
-        alf_chroma_num_alt_filters_minus1: 0,
-        coeff_abs: [0; 48],
-        coeff_sign: [false; 48],
-        clip_idx: [0; 48],
+impl Default for VvcAlfChroma {
+    ghost is_default = { λ d. d ≡ to_chroma no_chroma.default };
+
+    fn default() -> Self {
+        VvcAlfChroma {
+            alf_chroma_clip_flag: false,
+            alf_chroma_num_alt_filters_minus1: 0,
+            coeff_abs: [0; 48],
+            coeff_sign: [false; 48],
+            clip_idx: [0; 48],
+        }
     }
 }
 
-pub(crate) fn no_cc() -> VvcAlfCcFilters
-    ensures { result ≡ to_cc no_cc.default }
-{
-    VvcAlfCcFilters {
-        filters_signalled_minus1: 0,
-        mapped_coeff_abs: [0; 28],
-        coeff_sign: [false; 28],
+impl Default for VvcAlfCcFilters {
+    ghost is_default = { λ d. d ≡ to_cc no_cc.default };
+
+    fn default() -> Self {
+        VvcAlfCcFilters {
+            filters_signalled_minus1: 0,
+            mapped_coeff_abs: [0; 28],
+            coeff_sign: [false; 28],
+        }
     }
 }
 
-pub(crate) fn zero_alf() -> VvcAlfData
-    ensures { result ≡ zero_alf }
-{
-    VvcAlfData {
-        alf_luma_filter_signal_flag: false,
-        alf_chroma_filter_signal_flag: false,
-        alf_cc_cb_filter_signal_flag: false,
-        alf_cc_cr_filter_signal_flag: false,
-        luma: no_luma(),
-        chroma: no_chroma(),
-        cc_cb: no_cc(),
-        cc_cr: no_cc(),
+impl Default for VvcAlfData {
+    ghost is_default = { λ d. d ≡ zero_alf };
+
+    fn default() -> Self {
+        VvcAlfData {
+            alf_luma_filter_signal_flag: false,
+            alf_chroma_filter_signal_flag: false,
+            alf_cc_cb_filter_signal_flag: false,
+            alf_cc_cr_filter_signal_flag: false,
+            luma: VvcAlfLuma::default(),
+            chroma: VvcAlfChroma::default(),
+            cc_cb: VvcAlfCcFilters::default(),
+            cc_cr: VvcAlfCcFilters::default(),
+        }
     }
 }
 

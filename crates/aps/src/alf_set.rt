@@ -1,26 +1,22 @@
 // A set of loop filters.
 ghost use Rattle.std.specs.Prelude.{◌≡◌, refl};
-ghost use Rattle.bitstream.specs.Outcome.{map_outcome};
 ghost use Rattle.aps.specs.Inner.{assembled};
-ghost use Rattle.aps.specs.Payloads.{bare_alf, other_alf};
-ghost use Rattle.aps.specs.Rbsp.{parse_aps_rbsp};
+ghost use Rattle.aps.specs.Payloads.{bare_alf, other_alf, alone_alf, sent_alf};
 ghost use Rattle.aps.specs.ApsSyntax.{of_alf, zero_alf, zero_lmcs, zero_scaling};
 ghost use Rattle.aps.specs.declared.aps.ApsKind.{ApsKind};
-ghost use Rattle.aps.specs.Reading.{outcome_reading, alf_part};
+ghost use Rattle.aps.specs.Writing.{alf_set};
 
-use crate::alf::{VvcAlfData, parse_alf_data, zero_alf};
+use crate::alf::{VvcAlfData, parse_alf_data};
 use crate::alf_write::write_alf_data;
-use crate::aps::{Alf, ApsHead, ApsKind, Reading};
+use crate::aps::{Alf, ApsHead, ApsKind};
 use crate::ending::close_rbsp;
-use crate::payload::{ApsOf, Payload, parse_one};
+use crate::payload::Coded;
 use crate::reader::Reader;
 use crate::writer::Writer;
 use bitstream::Refusal;
 
-impl Payload for VvcAlfData {
-    ghost NUMBER = { 0 };
-
-    ghost kind = { ApsKind.Alf };
+impl Coded for VvcAlfData {
+    ghost KIND = { ApsKind.Alf };
 
     ghost none = { zero_alf };
 
@@ -28,17 +24,11 @@ impl Payload for VvcAlfData {
 
     ghost part = { λ a. a.alf };
 
+    ghost alone = { alf_set };
+
     ghost sent = { λ chroma d. of_alf d };
 
-    const NUMBER: u8 = Alf::NUMBER;
-
-    fn kind() -> ApsKind {
-        ApsKind::Alf
-    }
-
-    fn none() -> Self {
-        zero_alf()
-    }
+    const KIND: ApsKind = ApsKind::Alf;
 
     fn read(reader: &mut Reader, head: &mut ApsHead, d: &mut Self) -> Result<(), Refusal> {
         parse_alf_data(reader, head.aps_chroma_present_flag, d)?;
@@ -57,6 +47,8 @@ impl Payload for VvcAlfData {
         write_alf_data(writer, chroma, self)
     }
 
+    ghost default_is = { λ p e. e };
+
     ghost head_is = { λ h p. refl };
 
     ghost part_is = { λ h p. refl };
@@ -64,11 +56,8 @@ impl Payload for VvcAlfData {
     ghost bare = { bare_alf };
 
     ghost other = { other_alf };
-}
 
-// An ALF set out of its RBSP, and no other array; a set of another kind is told by its kind.
-pub fn parse_alf_rbsp(bytes: &[u8]) -> Result<Reading<ApsOf<VvcAlfData>>, Refusal>
-    ensures { outcome_reading result ≡ map_outcome alf_part (parse_aps_rbsp bytes.now) }
-{
-    parse_one(bytes)
+    ghost sent_alone = { alone_alf };
+
+    ghost sent_part = { sent_alf };
 }

@@ -1,16 +1,16 @@
 // adaptation_parameter_set_rbsp(), H.266 7.3.2.6. After src/h266/aps.rs.
 ghost use Rattle.std.specs.Prelude.{◌≡◌};
 ghost use Rattle.bitstream.specs.Outcome.{map_outcome};
-ghost use Rattle.aps.specs.Inner.{Names, Opens};
+ghost use Rattle.aps.specs.Inner.{Opens};
 ghost use Rattle.aps.specs.Rbsp.{parse_aps_rbsp};
 ghost use Rattle.aps.specs.ApsSyntax.{empty_set, number_of};
-ghost use Rattle.aps.specs.Reading.{outcome_reading, head_of};
+ghost use Rattle.aps.specs.Reading.{outcome_reading, head_of, kind_named};
 
-use crate::alf::{VvcAlfData, zero_alf};
-use crate::lmcs::{VvcLmcsData, zero_lmcs};
-use crate::payload::{Payload, pass_payload};
+use crate::alf::VvcAlfData;
+use crate::lmcs::VvcLmcsData;
+use crate::payload::{Coded, pass_payload};
 use crate::reader::Reader;
-use crate::scaling_list::{VvcScalingListData, zero_scaling};
+use crate::scaling_list::VvcScalingListData;
 use bitstream::{LONGEST_INPUT, Refusal};
 
 // aps_params_type.
@@ -56,13 +56,31 @@ impl Scaling {
 }
 
 // A kind's number.
-pub fn number_of(kind: ApsKind) -> u8
-    ensures { result ≡ number_of kind }
-{
-    match kind {
-        ApsKind::Alf => Alf::NUMBER,
-        ApsKind::Lmcs => Lmcs::NUMBER,
-        ApsKind::Scaling => Scaling::NUMBER,
+impl From<ApsKind> for u8 {
+    ghost from_gives = { λ kind n. n ≡ number_of kind };
+
+    fn from(kind: ApsKind) -> Self {
+        match kind {
+            ApsKind::Alf => Alf::NUMBER,
+            ApsKind::Lmcs => Lmcs::NUMBER,
+            ApsKind::Scaling => Scaling::NUMBER,
+        }
+    }
+}
+
+// The kind of a number. 3: there is none.
+impl TryFrom<u8> for ApsKind {
+    type Error = Refusal;
+
+    ghost try_from_gives = { kind_named };
+
+    fn try_from(number: u8) -> Result<Self, Refusal> {
+        match number {
+            Alf::NUMBER => Ok(ApsKind::Alf),
+            Lmcs::NUMBER => Ok(ApsKind::Lmcs),
+            Scaling::NUMBER => Ok(ApsKind::Scaling),
+            _ => Err(Refusal::Unsupported),
+        }
     }
 }
 
@@ -95,48 +113,34 @@ pub struct ApsHead {
 }
 
 // Every field zero, false or the first case.
-pub fn empty_set() -> VvcAps
-    ensures { result ≡ empty_set }
-{
-    VvcAps {
-        kind: ApsKind::Alf,
-        aps_adaptation_parameter_set_id: 0,
-        aps_chroma_present_flag: false,
-        aps_extension_flag: false,
-        alf: zero_alf(),
-        lmcs: zero_lmcs(),
-        scaling: zero_scaling(),
+impl Default for VvcAps {
+    ghost is_default = { λ a. a ≡ empty_set };
+
+    fn default() -> Self {
+        VvcAps {
+            kind: ApsKind::Alf,
+            aps_adaptation_parameter_set_id: 0,
+            aps_chroma_present_flag: false,
+            aps_extension_flag: false,
+            alf: VvcAlfData::default(),
+            lmcs: VvcLmcsData::default(),
+            scaling: VvcScalingListData::default(),
+        }
     }
 }
 
 // The empty set's head.
-pub fn empty_head() -> ApsHead
-    ensures { result ≡ head_of empty_set }
-{
-    let id = 0;
-    let extension = false;
-    ApsHead {
-        kind: ApsKind::Alf,
-        aps_adaptation_parameter_set_id: id,
-        aps_chroma_present_flag: false,
-        aps_extension_flag: extension,
-    }
-}
+impl Default for ApsHead {
+    ghost is_default = { λ h. h ≡ head_of empty_set };
 
-// The kind of a number.
-fn kind_of(number: u32) -> Result<ApsKind, Refusal>
-    ensures { Names number result }
-{
-    if number == Alf::NUMBER as u32 {
-        return Ok(ApsKind::Alf);
+    fn default() -> Self {
+        ApsHead {
+            kind: ApsKind::Alf,
+            aps_adaptation_parameter_set_id: 0,
+            aps_chroma_present_flag: false,
+            aps_extension_flag: false,
+        }
     }
-    if number == Lmcs::NUMBER as u32 {
-        return Ok(ApsKind::Lmcs);
-    }
-    if number == Scaling::NUMBER as u32 {
-        return Ok(ApsKind::Scaling);
-    }
-    Err(Refusal::Unsupported)
 }
 
 // What stands before the payload, with the extension flag still to be read, and the reader of what follows.
@@ -151,12 +155,12 @@ pub(crate) fn open_rbsp(bytes: &[u8]) -> Result<(Reader<'_>, ApsHead), Refusal>
     let number = reader.u(3, 8)?;
     let id = reader.u(5, 8)?;
     let chroma = reader.flag()?;
-    let kind = kind_of(number)?;
+    let kind = ApsKind::try_from(number as u8)?;
     let head = ApsHead {
         kind,
         aps_adaptation_parameter_set_id: id as u8,
         aps_chroma_present_flag: chroma,
-        ..empty_head()
+        aps_extension_flag: false,
     };
     Ok((reader, head))
 }
@@ -166,7 +170,7 @@ pub fn parse_aps_rbsp(bytes: &[u8]) -> Result<Reading<VvcAps>, Refusal>
     ensures { outcome_reading result ≡ parse_aps_rbsp bytes.now }
 {
     let (mut reader, mut head) = open_rbsp(bytes)?;
-    let mut set = empty_set();
+    let mut set = VvcAps::default();
     match head.kind {
         ApsKind::Alf => VvcAlfData::read(&mut reader, &mut head, &mut set.alf)?,
         ApsKind::Lmcs => VvcLmcsData::read(&mut reader, &mut head, &mut set.lmcs)?,

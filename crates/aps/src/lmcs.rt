@@ -4,7 +4,7 @@ ghost use Rattle.aps.specs.LmcsSyntax.{in_range, lmcs_head, lmcs_codewords, lmcs
 ghost use Rattle.aps.specs.ApsSyntax.{zero_lmcs};
 ghost use Rattle.aps.specs.Reads.{filled, Reads};
 
-use crate::reader::Reader;
+use crate::reader::{ByZeros, Reader};
 use bitstream::Refusal;
 
 #[derive(Clone, Copy)]
@@ -18,17 +18,20 @@ pub struct VvcLmcsData {
     pub lmcs_delta_sign_crs_flag: bool,
 }
 
-pub(crate) fn zero_lmcs() -> VvcLmcsData
-    ensures { result ≡ zero_lmcs }
-{
-    VvcLmcsData {
-        lmcs_min_bin_idx: 0,
-        lmcs_delta_max_bin_idx: 0,
-        lmcs_delta_cw_prec_minus1: 0,
-        lmcs_delta_abs_cw: [0; 16],
-        lmcs_delta_sign_cw_flag: [false; 16],
-        lmcs_delta_abs_crs: 0,
-        lmcs_delta_sign_crs_flag: false,
+// Nothing sent.
+impl Default for VvcLmcsData {
+    ghost is_default = { λ d. d ≡ zero_lmcs };
+
+    fn default() -> Self {
+        VvcLmcsData {
+            lmcs_min_bin_idx: 0,
+            lmcs_delta_max_bin_idx: 0,
+            lmcs_delta_cw_prec_minus1: 0,
+            lmcs_delta_abs_cw: [0; 16],
+            lmcs_delta_sign_cw_flag: [false; 16],
+            lmcs_delta_abs_crs: 0,
+            lmcs_delta_sign_crs_flag: false,
+        }
     }
 }
 
@@ -55,9 +58,9 @@ fn read_head(reader: &mut Reader, d: &mut VvcLmcsData) -> Result<(), Refusal>
     ensures others { (d.new.lmcs_delta_abs_cw ≡ d.old.lmcs_delta_abs_cw) × (d.new.lmcs_delta_sign_cw_flag ≡ d.old.lmcs_delta_sign_cw_flag)
         × (d.new.lmcs_delta_abs_crs ≡ d.old.lmcs_delta_abs_crs) × (d.new.lmcs_delta_sign_crs_flag ≡ d.old.lmcs_delta_sign_crs_flag) }
 {
-    let min = reader.ue()?;
-    let max = reader.ue()?;
-    let prec = reader.ue()?;
+    let min = reader.ue_by(&ByZeros)?;
+    let max = reader.ue_by(&ByZeros)?;
+    let prec = reader.ue_by(&ByZeros)?;
     if !in_range(min, max, prec) {
         return Err(Refusal::InvalidData);
     }

@@ -1,26 +1,22 @@
 // A set of the luma curve.
 ghost use Rattle.std.specs.Prelude.{◌≡◌, refl};
-ghost use Rattle.bitstream.specs.Outcome.{map_outcome};
 ghost use Rattle.aps.specs.Inner.{assembled};
-ghost use Rattle.aps.specs.Payloads.{bare_lmcs, other_lmcs};
-ghost use Rattle.aps.specs.Rbsp.{parse_aps_rbsp};
+ghost use Rattle.aps.specs.Payloads.{bare_lmcs, other_lmcs, alone_lmcs, sent_lmcs};
 ghost use Rattle.aps.specs.ApsSyntax.{of_lmcs, zero_alf, zero_lmcs, zero_scaling};
 ghost use Rattle.aps.specs.declared.aps.ApsKind.{ApsKind};
-ghost use Rattle.aps.specs.Reading.{outcome_reading, lmcs_part};
+ghost use Rattle.aps.specs.Writing.{lmcs_set};
 
-use crate::aps::{ApsHead, ApsKind, Lmcs, Reading};
+use crate::aps::{ApsHead, ApsKind, Lmcs};
 use crate::ending::close_rbsp;
-use crate::lmcs::{VvcLmcsData, parse_lmcs_data, zero_lmcs};
+use crate::lmcs::{VvcLmcsData, parse_lmcs_data};
 use crate::lmcs_write::write_lmcs_data;
-use crate::payload::{ApsOf, Payload, parse_one};
+use crate::payload::Coded;
 use crate::reader::Reader;
 use crate::writer::Writer;
 use bitstream::Refusal;
 
-impl Payload for VvcLmcsData {
-    ghost NUMBER = { 1 };
-
-    ghost kind = { ApsKind.Lmcs };
+impl Coded for VvcLmcsData {
+    ghost KIND = { ApsKind.Lmcs };
 
     ghost none = { zero_lmcs };
 
@@ -28,17 +24,11 @@ impl Payload for VvcLmcsData {
 
     ghost part = { λ a. a.lmcs };
 
+    ghost alone = { lmcs_set };
+
     ghost sent = { λ chroma d. of_lmcs d };
 
-    const NUMBER: u8 = Lmcs::NUMBER;
-
-    fn kind() -> ApsKind {
-        ApsKind::Lmcs
-    }
-
-    fn none() -> Self {
-        zero_lmcs()
-    }
+    const KIND: ApsKind = ApsKind::Lmcs;
 
     fn read(reader: &mut Reader, head: &mut ApsHead, d: &mut Self) -> Result<(), Refusal> {
         // Its id is judged before its payload.
@@ -57,6 +47,8 @@ impl Payload for VvcLmcsData {
         write_lmcs_data(writer, chroma, self)
     }
 
+    ghost default_is = { λ p e. e };
+
     ghost head_is = { λ h p. refl };
 
     ghost part_is = { λ h p. refl };
@@ -64,11 +56,8 @@ impl Payload for VvcLmcsData {
     ghost bare = { bare_lmcs };
 
     ghost other = { other_lmcs };
-}
 
-// An LMCS set out of its RBSP, and no other array; a set of another kind is told by its kind.
-pub fn parse_lmcs_rbsp(bytes: &[u8]) -> Result<Reading<ApsOf<VvcLmcsData>>, Refusal>
-    ensures { outcome_reading result ≡ map_outcome lmcs_part (parse_aps_rbsp bytes.now) }
-{
-    parse_one(bytes)
+    ghost sent_alone = { alone_lmcs };
+
+    ghost sent_part = { sent_lmcs };
 }

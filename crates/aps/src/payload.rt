@@ -1,8 +1,10 @@
 // The payload of a set of one kind: how it is read and written, and the set that it makes.
-ghost use Rattle.std.specs.Prelude.{◌≡◌, Bool, ℕ, ◌+◌, ◌≤◌};
-ghost use Rattle.aps.specs.ApsSyntax.{payload};
+ghost use Rattle.std.specs.Prelude.{◌≡◌, Bool, List, ℕ, ◌+◌, ◌≤◌};
+ghost use Rattle.aps.specs.ApsSyntax.{payload, number_of, from_aps};
 ghost use Rattle.aps.specs.ApsSyntax as Syntax;
-ghost use Rattle.bitstream.specs.Outcome.{map_outcome};
+ghost use Rattle.bitstream.specs.Outcome.{left, map_outcome, outcome_written};
+ghost use Rattle.aps.specs.Writing.{write_aps};
+ghost use Rattle.aps.specs.Payloads.{alike};
 ghost use Rattle.aps.specs.Inner.{Heading, Bare, Passes};
 ghost use Rattle.aps.specs.Rbsp.{read_rbsp, parse_aps_rbsp};
 ghost use Rattle.aps.specs.Reading.{outcome_reading, head_of};
@@ -17,13 +19,44 @@ use crate::aps::{ApsHead, ApsKind, Reading, open_rbsp};
 use crate::lmcs::VvcLmcsData;
 use crate::reader::Reader;
 use crate::scaling_list::VvcScalingListData;
+use crate::write::{copy_out, put_rbsp};
 use crate::writer::Writer;
 use bitstream::Refusal;
 
-pub(crate) trait Payload: Copy {
-    ghost NUMBER: { ℕ };
+// The payload of a set of one kind, which is read and written without those of the other two.
+pub trait Payload: Copy {
+    ghost KIND: { ApsKind };
 
-    ghost kind: { ApsKind };
+    ghost part: { VvcAps → Self };
+
+    // The set of an id, the two flags and this payload; the writer does not look at the others.
+    ghost alone: { ℕ → Bool → Bool → Self → VvcAps };
+
+    const KIND: ApsKind;
+
+    // A set out of its RBSP, and no other array; a set of another kind is told by its kind.
+    fn parse_rbsp(bytes: &[u8]) -> Result<Reading<ApsOf<Self>>, Refusal>
+        ensures { outcome_reading result ≡ map_outcome (λ a. record { head = head_of a; payload = part a }) (parse_aps_rbsp bytes.now) };
+
+    // A set as an RBSP.
+    fn write_rbsp(
+        &self,
+        id: u8,
+        chroma: bool,
+        extension: bool,
+        out: &mut [u8],
+    ) -> Result<usize, Refusal>
+        ensures answer { outcome_written result out.new ≡ write_aps (alone id chroma extension self.now) out.old }
+        ensures bytes { out.new ≡ left out.old (write_aps (alone id chroma extension self.now) out.old) };
+
+    // Sets of its kind with the same payload are written alike.
+    ghost alike: { (a : VvcAps) (out : List ℕ) → a.kind ≡ KIND
+        → write_aps (alone a.aps_adaptation_parameter_set_id a.aps_chroma_present_flag a.aps_extension_flag (part a)) out ≡ write_aps a out };
+}
+
+// How it is read and written, field by field.
+pub(crate) trait Coded: Copy + Default {
+    ghost KIND: { ApsKind };
 
     // Nothing sent.
     ghost none: { Self };
@@ -33,34 +66,77 @@ pub(crate) trait Payload: Copy {
 
     ghost part: { VvcAps → Self };
 
+    ghost alone: { ℕ → Bool → Bool → Self → VvcAps };
+
     ghost sent: { Bool → Self → Syntax.Payload };
 
-    const NUMBER: u8;
-
-    fn kind() -> ApsKind
-        ensures { result ≡ kind };
-
-    fn none() -> Self
-        ensures { result ≡ none };
+    const KIND: ApsKind;
 
     // The payload after its head, its id where it is judged, and what closes the RBSP.
     fn read(reader: &mut Reader, head: &mut ApsHead, d: &mut Self) -> Result<(), Refusal>
-        requires { (reader.old.at ≡ 9) × (head.old.kind ≡ kind) × Heading reader.old.bytes.now head.old × (d.old ≡ none) }
+        requires { (reader.old.at ≡ 9) × (head.old.kind ≡ KIND) × Heading reader.old.bytes.now head.old × (d.old ≡ none) }
         ensures set { filled result (set head.new d.new) reader.new.at ≡ read_rbsp reader.old.bytes.now }
         ensures kind { head.new.kind ≡ head.old.kind };
 
     fn write(&self, writer: &mut Writer, id: u8, chroma: bool) -> Result<(), Refusal>
         requires { writer.old.at ≤ 100 }
-        ensures wrote { Wrote (payload NUMBER id chroma) (sent chroma self.now) writer.old writer.new result }
+        ensures wrote { Wrote (payload (number_of KIND) id chroma) (sent chroma self.now) writer.old writer.new result }
         ensures within { writer.new.at ≤ writer.old.at + 31248 };
+
+    ghost default_is: { (p : Self) → Self.is_default p → p ≡ none };
 
     ghost head_is: { (h : ApsHead) (p : Self) → head_of (set h p) ≡ h };
 
     ghost part_is: { (h : ApsHead) (p : Self) → part (set h p) ≡ p };
 
-    ghost bare: { (h : ApsHead) (p : Self) → h.kind ≡ kind → Bare (set h p) };
+    ghost bare: { (h : ApsHead) (p : Self) → h.kind ≡ KIND → Bare (set h p) };
 
-    ghost other: { (a : VvcAps) → Bare a → (a.kind ≡ kind → ⊥) → part a ≡ none };
+    ghost other: { (a : VvcAps) → Bare a → (a.kind ≡ KIND → ⊥) → part a ≡ none };
+
+    ghost sent_alone: { (id : ℕ) (chroma extension : Bool) (p : Self) → from_aps (alone id chroma extension p) ≡ (number_of KIND, (id, (chroma, (sent chroma p, extension)))) };
+
+    ghost sent_part: { (a : VvcAps) → a.kind ≡ KIND → from_aps (alone a.aps_adaptation_parameter_set_id a.aps_chroma_present_flag a.aps_extension_flag (part a)) ≡ from_aps a };
+}
+
+impl<P: Coded> Payload for P {
+    ghost KIND = { P.KIND };
+
+    ghost part = { P.part };
+
+    ghost alone = { P.alone };
+
+    const KIND: ApsKind = P::KIND;
+
+    fn parse_rbsp(bytes: &[u8]) -> Result<Reading<ApsOf<Self>>, Refusal> {
+        let (mut reader, mut head) = open_rbsp(bytes)?;
+        let mut payload = P::default();
+        if head.kind != P::KIND {
+            pass_payload(&mut reader, &mut head)?;
+            return Ok(Reading {
+                value: ApsOf { head, payload },
+                end: reader.at(),
+            });
+        }
+        P::read(&mut reader, &mut head, &mut payload)?;
+        Ok(Reading {
+            value: ApsOf { head, payload },
+            end: reader.at(),
+        })
+    }
+
+    fn write_rbsp(
+        &self,
+        id: u8,
+        chroma: bool,
+        extension: bool,
+        out: &mut [u8],
+    ) -> Result<usize, Refusal> {
+        let mut writer = Writer::new();
+        put_rbsp(&mut writer, id, chroma, extension, self)?;
+        copy_out(writer.bytes(), out)
+    }
+
+    ghost alike = { λ a out e. alike _ a out (P.sent_part a e) };
 }
 
 // A set of which one kind's payload is kept: its head and that payload, none where the set is of another kind.
@@ -71,12 +147,12 @@ pub struct ApsOf<P> {
 }
 
 // Reads past a payload, which is not kept.
-fn pass_one<P: Payload>(reader: &mut Reader, head: &mut ApsHead) -> Result<(), Refusal>
-    requires { (reader.old.at ≡ 9) × (head.old.kind ≡ P.kind) × Heading reader.old.bytes.now head.old }
+fn pass_one<P: Coded>(reader: &mut Reader, head: &mut ApsHead) -> Result<(), Refusal>
+    requires { (reader.old.at ≡ 9) × (head.old.kind ≡ P.KIND) × Heading reader.old.bytes.now head.old }
     ensures past { Passes result head.new reader.new.at (read_rbsp reader.old.bytes.now) }
     ensures kind { head.new.kind ≡ head.old.kind }
 {
-    let mut d = P::none();
+    let mut d = P::default();
     P::read(reader, head, &mut d)
 }
 
@@ -91,24 +167,4 @@ pub(crate) fn pass_payload(reader: &mut Reader, head: &mut ApsHead) -> Result<()
         ApsKind::Lmcs => pass_one::<VvcLmcsData>(reader, head),
         ApsKind::Scaling => pass_one::<VvcScalingListData>(reader, head),
     }
-}
-
-// A set out of its RBSP, of which the payload is kept where it is of this kind.
-pub(crate) fn parse_one<P: Payload>(bytes: &[u8]) -> Result<Reading<ApsOf<P>>, Refusal>
-    ensures { outcome_reading result ≡ map_outcome (λ a. record { head = head_of a; payload = P.part a }) (parse_aps_rbsp bytes.now) }
-{
-    let (mut reader, mut head) = open_rbsp(bytes)?;
-    let mut payload = P::none();
-    if head.kind != P::kind() {
-        pass_payload(&mut reader, &mut head)?;
-        return Ok(Reading {
-            value: ApsOf { head, payload },
-            end: reader.at(),
-        });
-    }
-    P::read(&mut reader, &mut head, &mut payload)?;
-    Ok(Reading {
-        value: ApsOf { head, payload },
-        end: reader.at(),
-    })
 }

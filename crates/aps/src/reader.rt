@@ -1,12 +1,35 @@
 // The fields of an input of at most 65,536 bytes, one after another.
 ghost use Rattle.std.specs.Prelude.{◌≡◌, false, cond, ◌+◌, ◌*◌, ◌≤◌, ◌<◌, eqb, ltb, nat_abs, length};
 ghost use Rattle.bitstream.specs.Fields.{se_value};
-ghost use Rattle.bitstream.specs.Windows.{IsWindow};
+ghost use Rattle.bitstream.specs.Windows.{IsWindow, code_in, found};
 
 use bitstream::Refusal;
 use bitstream::bit_reader::BitReader;
 use bitstream::short_codes::CodeTable;
-use bitstream::window::window;
+use bitstream::window::{Code, code_in, window};
+
+// How the short code at the start of a word is found.
+pub(crate) trait Codes {
+    fn find(&self, w: u64) -> Option<Code>
+        ensures { found result ≡ code_in w };
+}
+
+impl Codes for CodeTable {
+    #[inline(always)]
+    fn find(&self, w: u64) -> Option<Code> {
+        self.code(w)
+    }
+}
+
+// By its zeros, where there are too few codes to pay for a table.
+pub(crate) struct ByZeros;
+
+impl Codes for ByZeros {
+    #[inline(always)]
+    fn find(&self, w: u64) -> Option<Code> {
+        code_in(w)
+    }
+}
 
 // The `left` highest of `bits` are the bits from bit `at` on, zeros past the end.
 #[derive(Clone, Copy)]
@@ -145,13 +168,13 @@ impl<'a> Reader<'a> {
         Ok(field.value)
     }
 
-    // ue(v), looked for in the table first.
+    // ue(v), looked for among the short codes first.
     #[inline(always)]
-    pub(crate) fn ue_by(&mut self, codes: &CodeTable) -> Result<u32, Refusal>
+    pub(crate) fn ue_by<C: Codes>(&mut self, codes: &C) -> Result<u32, Refusal>
         ensures { Reads ue (given result self.new.at) self.old self.new }
     {
         self.fill(17);
-        if let Some(code) = codes.code(self.bits) {
+        if let Some(code) = codes.find(self.bits) {
             if !self.lacks(code.bits) {
                 self.pass(code.bits, 17);
                 return Ok(code.value);

@@ -16,15 +16,18 @@ pub struct VvcScalingListData {
 // Bit i: position i of the diagonal scan (6.5.2) is in column 4 or more and row 4 or more.
 const CORNER: u64 = 0xFFDC_6080_0000_0000;
 
-pub(crate) fn zero_scaling() -> VvcScalingListData
-    ensures { result ≡ zero_scaling }
-{
-    VvcScalingListData {
-        copy_mode_flag: [false; 28],
-        pred_mode_flag: [false; 28],
-        pred_id_delta: [0; 28],
-        dc_coef: [0; 14],
-        scaling_list: [0; 1792],
+// Nothing sent.
+impl Default for VvcScalingListData {
+    ghost is_default = { λ d. d ≡ zero_scaling };
+
+    fn default() -> Self {
+        VvcScalingListData {
+            copy_mode_flag: [false; 28],
+            pred_mode_flag: [false; 28],
+            pred_id_delta: [0; 28],
+            dc_coef: [0; 14],
+            scaling_list: [0; 1792],
+        }
     }
 }
 

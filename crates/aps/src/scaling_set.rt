@@ -1,28 +1,24 @@
 // A set of scaling lists.
 ghost use Rattle.std.specs.Prelude.{◌≡◌, refl};
-ghost use Rattle.bitstream.specs.Outcome.{map_outcome};
 ghost use Rattle.aps.specs.Inner.{assembled};
-ghost use Rattle.aps.specs.Payloads.{bare_scaling, other_scaling};
-ghost use Rattle.aps.specs.Rbsp.{parse_aps_rbsp};
+ghost use Rattle.aps.specs.Payloads.{bare_scaling, other_scaling, alone_scaling, sent_scaling};
 ghost use Rattle.aps.specs.ApsSyntax.{of_scaling, zero_alf, zero_lmcs, zero_scaling};
 ghost use Rattle.aps.specs.declared.aps.ApsKind.{ApsKind};
-ghost use Rattle.aps.specs.Reading.{outcome_reading, scaling_part};
+ghost use Rattle.aps.specs.Writing.{scaling_set};
 ghost use Rattle.aps.specs.ScalingSyntax.{look};
 
-use crate::aps::{ApsHead, ApsKind, Reading, Scaling};
+use crate::aps::{ApsHead, ApsKind, Scaling};
 use crate::ending::close_rbsp;
-use crate::payload::{ApsOf, Payload, parse_one};
+use crate::payload::Coded;
 use crate::reader::Reader;
-use crate::scaling_list::{VvcScalingListData, zero_scaling};
+use crate::scaling_list::VvcScalingListData;
 use crate::scaling_list_data::parse_scaling_list_data;
 use crate::scaling_list_write::write_scaling_list_data;
 use crate::writer::Writer;
 use bitstream::Refusal;
 
-impl Payload for VvcScalingListData {
-    ghost NUMBER = { 2 };
-
-    ghost kind = { ApsKind.Scaling };
+impl Coded for VvcScalingListData {
+    ghost KIND = { ApsKind.Scaling };
 
     ghost none = { zero_scaling };
 
@@ -30,17 +26,11 @@ impl Payload for VvcScalingListData {
 
     ghost part = { λ a. a.scaling };
 
+    ghost alone = { scaling_set };
+
     ghost sent = { λ chroma d. of_scaling (look chroma d) };
 
-    const NUMBER: u8 = Scaling::NUMBER;
-
-    fn kind() -> ApsKind {
-        ApsKind::Scaling
-    }
-
-    fn none() -> Self {
-        zero_scaling()
-    }
+    const KIND: ApsKind = ApsKind::Scaling;
 
     fn read(reader: &mut Reader, head: &mut ApsHead, d: &mut Self) -> Result<(), Refusal> {
         parse_scaling_list_data(reader, head.aps_chroma_present_flag, d)?;
@@ -59,6 +49,8 @@ impl Payload for VvcScalingListData {
         write_scaling_list_data(writer, chroma, self)
     }
 
+    ghost default_is = { λ p e. e };
+
     ghost head_is = { λ h p. refl };
 
     ghost part_is = { λ h p. refl };
@@ -66,11 +58,8 @@ impl Payload for VvcScalingListData {
     ghost bare = { bare_scaling };
 
     ghost other = { other_scaling };
-}
 
-// A scaling set out of its RBSP, and no other array; a set of another kind is told by its kind.
-pub fn parse_scaling_rbsp(bytes: &[u8]) -> Result<Reading<ApsOf<VvcScalingListData>>, Refusal>
-    ensures { outcome_reading result ≡ map_outcome scaling_part (parse_aps_rbsp bytes.now) }
-{
-    parse_one(bytes)
+    ghost sent_alone = { alone_scaling };
+
+    ghost sent_part = { sent_scaling };
 }

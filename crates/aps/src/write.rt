@@ -3,16 +3,16 @@ ghost use Rattle.std.specs.Prelude.{◌≡◌, Bool, false, ℕ, ◌+◌, ◌≤
 ghost use Rattle.bitstream.specs.Outcome.{left, outcome_written};
 ghost use Rattle.bitstream.specs.Escapes.{put_bytes};
 ghost use Rattle.aps.specs.declared.aps.VvcAps.{VvcAps};
-ghost use Rattle.aps.specs.ApsSyntax.{of_alf, of_lmcs, of_scaling, payload, aps, from_aps};
+ghost use Rattle.aps.specs.ApsSyntax.{of_alf, of_lmcs, of_scaling, payload, aps, from_aps, number_of};
 ghost use Rattle.aps.specs.ApsSyntax as Syntax;
 ghost use Rattle.aps.specs.ScalingSyntax.{look};
 ghost use Rattle.aps.specs.Writes.{Wrote, closed};
-ghost use Rattle.aps.specs.Writing.{bytes_due, alf_set, lmcs_set, scaling_set, write_aps, write_nal, write_aps_nal};
+ghost use Rattle.aps.specs.Writing.{bytes_due, write_aps, write_nal, write_aps_nal};
 
 use crate::alf::VvcAlfData;
 use crate::aps::{ApsKind, VvcAps};
 use crate::lmcs::VvcLmcsData;
-use crate::payload::Payload;
+use crate::payload::Coded;
 use crate::scaling_list::VvcScalingListData;
 use crate::unit::is_aps;
 use crate::writer::Writer;
@@ -20,12 +20,12 @@ use bitstream::nal::rbsp_to_ebsp;
 use bitstream::{LONGEST_INPUT, Refusal};
 
 // A set up to its extension flag, which is 0: what stands before the payload, the payload and the flag.
-fn put_set<P: Payload>(writer: &mut Writer, id: u8, chroma: bool, d: &P) -> Result<(), Refusal>
+fn put_set<P: Coded>(writer: &mut Writer, id: u8, chroma: bool, d: &P) -> Result<(), Refusal>
     requires { writer.old.at ≡ 0 }
-    ensures wrote { (a : VvcAps) → from_aps a ≡ (P.NUMBER, (id, (chroma, (P.sent chroma d.now, false)))) → Wrote aps a writer.old writer.new result }
+    ensures wrote { (a : VvcAps) → from_aps a ≡ (number_of P.KIND, (id, (chroma, (P.sent chroma d.now, false)))) → Wrote aps a writer.old writer.new result }
     ensures within { writer.new.at ≤ 31258 }
 {
-    writer.u(u32::from(P::NUMBER), 3)?;
+    writer.u(u32::from(u8::from(P::KIND)), 3)?;
     writer.u(u32::from(id), 5)?;
     writer.flag(chroma)?;
     d.write(writer, id, chroma)?;
@@ -33,7 +33,7 @@ fn put_set<P: Payload>(writer: &mut Writer, id: u8, chroma: bool, d: &P) -> Resu
 }
 
 // A set with what closes its RBSP. 3: extension flag 1.
-fn put_rbsp<P: Payload>(
+pub(crate) fn put_rbsp<P: Coded>(
     writer: &mut Writer,
     id: u8,
     chroma: bool,
@@ -41,7 +41,7 @@ fn put_rbsp<P: Payload>(
     d: &P,
 ) -> Result<(), Refusal>
     requires { (writer.old.at ≡ 0) × (writer.old.buffer ≡ replicate 4096 0) }
-    ensures due { (a : VvcAps) → from_aps a ≡ (P.NUMBER, (id, (chroma, (P.sent chroma d.now, extension)))) → closed result writer.new ≡ bytes_due a }
+    ensures due { (a : VvcAps) → from_aps a ≡ (number_of P.KIND, (id, (chroma, (P.sent chroma d.now, extension)))) → closed result writer.new ≡ bytes_due a }
     ensures within { writer.new.at ≤ 32768 }
 {
     if extension {
@@ -120,62 +120,4 @@ pub fn write_aps_nal(set: &VvcAps, unit_type: u8, out: &mut [u8]) -> Result<usiz
     let mut writer = Writer::new();
     write_rbsp(&mut writer, set)?;
     write_nal(writer.bytes(), unit_type, out)
-}
-
-// A set of one kind as an RBSP, without the record of all three kinds.
-fn write_one<P: Payload>(
-    id: u8,
-    chroma: bool,
-    extension: bool,
-    d: &P,
-    out: &mut [u8],
-) -> Result<usize, Refusal>
-    ensures answer { (a : VvcAps) → from_aps a ≡ (P.NUMBER, (id, (chroma, (P.sent chroma d.now, extension)))) → outcome_written result out.new ≡ write_aps a out.old }
-    ensures bytes { (a : VvcAps) → from_aps a ≡ (P.NUMBER, (id, (chroma, (P.sent chroma d.now, extension)))) → out.new ≡ left out.old (write_aps a out.old) }
-{
-    let mut writer = Writer::new();
-    put_rbsp(&mut writer, id, chroma, extension, d)?;
-    copy_out(writer.bytes(), out)
-}
-
-// An ALF set as an RBSP.
-pub fn write_alf(
-    id: u8,
-    chroma: bool,
-    extension: bool,
-    d: &VvcAlfData,
-    out: &mut [u8],
-) -> Result<usize, Refusal>
-    ensures answer { outcome_written result out.new ≡ write_aps (alf_set id chroma extension d.now) out.old }
-    ensures bytes { out.new ≡ left out.old (write_aps (alf_set id chroma extension d.now) out.old) }
-{
-    write_one(id, chroma, extension, d, out)
-}
-
-// An LMCS set as an RBSP.
-pub fn write_lmcs(
-    id: u8,
-    chroma: bool,
-    extension: bool,
-    d: &VvcLmcsData,
-    out: &mut [u8],
-) -> Result<usize, Refusal>
-    ensures answer { outcome_written result out.new ≡ write_aps (lmcs_set id chroma extension d.now) out.old }
-    ensures bytes { out.new ≡ left out.old (write_aps (lmcs_set id chroma extension d.now) out.old) }
-{
-    write_one(id, chroma, extension, d, out)
-}
-
-// A scaling set as an RBSP.
-pub fn write_scaling(
-    id: u8,
-    chroma: bool,
-    extension: bool,
-    d: &VvcScalingListData,
-    out: &mut [u8],
-) -> Result<usize, Refusal>
-    ensures answer { outcome_written result out.new ≡ write_aps (scaling_set id chroma extension d.now) out.old }
-    ensures bytes { out.new ≡ left out.old (write_aps (scaling_set id chroma extension d.now) out.old) }
-{
-    write_one(id, chroma, extension, d, out)
 }

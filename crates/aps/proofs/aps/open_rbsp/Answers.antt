@@ -26,6 +26,9 @@ returns-in_err-chroma c =
     opens-exit _ _ _ c.from_residual-in_err-chroma.ensures.1
     (open-refused (omega arith) c.new-reader.ensures (reads-via _ _ _ (reads-▷ _ c.in_ok-number.ensures (reads-▷ _ c.in_ok-id.ensures (reads-▷-first _ c.in_err-chroma.ensures)))))
 
+pub overflow_cast-number : goal.overflow_cast-number
+overflow_cast-number c = record { fits = omega (arith, read-lt 3 c.in_ok-number.ensures) }
+
 pub returns-in_err-kind : goal.returns-in_err-kind
 returns-in_err-kind c =
     let s = c.args.bytes.now in

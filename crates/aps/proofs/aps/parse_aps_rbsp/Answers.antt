@@ -15,7 +15,7 @@ none-sent e = (ap (λ a. a.alf) e, ap (λ a. a.lmcs) e, ap (λ a. a.scaling) e)
 pub read-requires : goal.read-requires
 read-requires c =
     let o = c.in_ok-reader.ensures in
-    (o.2, c.in-Alf.is, rw o.1 o.3, (none-sent c.empty_set-set.ensures).0)
+    (o.2, c.in-Alf.is, rw o.1 o.3, (none-sent c.default-set.ensures).0)
 
 pub returns-in_err-read-in-Alf : goal.returns-in_err-read-in-Alf
 returns-in_err-read-in-Alf c =
@@ -26,7 +26,7 @@ returns-in_err-read-in-Alf c =
 pub read-requires-in-Lmcs : goal.read-requires-in-Lmcs
 read-requires-in-Lmcs c =
     let o = c.in_ok-reader.ensures in
-    (o.2, c.in-Lmcs.is, rw o.1 o.3, (none-sent c.empty_set-set.ensures).1)
+    (o.2, c.in-Lmcs.is, rw o.1 o.3, (none-sent c.default-set.ensures).1)
 
 pub returns-in_err-read-in-Lmcs : goal.returns-in_err-read-in-Lmcs
 returns-in_err-read-in-Lmcs c =
@@ -37,7 +37,7 @@ returns-in_err-read-in-Lmcs c =
 pub read-requires-in-Scaling : goal.read-requires-in-Scaling
 read-requires-in-Scaling c =
     let o = c.in_ok-reader.ensures in
-    (o.2, c.in-Scaling.is, rw o.1 o.3, (none-sent c.empty_set-set.ensures).2)
+    (o.2, c.in-Scaling.is, rw o.1 o.3, (none-sent c.default-set.ensures).2)
 
 pub returns-in_err-read-in-Scaling : goal.returns-in_err-read-in-Scaling
 returns-in_err-read-in-Scaling c =
@@ -48,7 +48,7 @@ returns-in_err-read-in-Scaling c =
 pub returns : goal.returns
 returns c =
     let o = c.in_ok-reader.ensures in
-    let none = none-sent c.empty_set-set.ensures in
+    let none = none-sent c.default-set.ensures in
     elim c.match-head.branch [
       | in-Alf+in_ok-read-in-Alf w ↦ rw (w.set-is, w.head-is, c.at.ensures, ap (λ r. r.at) w.reader-is, none.1, none.2) (w.in_ok-read-in-Alf.ensures.set ∙ opened o.0 o.1)
       | in-Lmcs+in_ok-read-in-Lmcs w ↦ rw (w.set-is, w.head-is, c.at.ensures, ap (λ r. r.at) w.reader-is, none.0, none.2) (w.in_ok-read-in-Lmcs.ensures.set ∙ opened o.0 o.1)

@@ -6,33 +6,33 @@ use Rattle.aps.proofs.write.put_set.Goals as goal
 
 pub returns-in_err-u-clause-wrote : goal.returns-in_err-u-clause-wrote
 unfolding aps_syntax
-returns-in_err-u-clause-wrote g c a e = set-wrote e (wrote-exit c.from_residual.ensures.1 (wrote-▷-first _ (rw (c.from.ensures, c.NUMBER.ensures) at c.in_err-u.ensures.wrote)))
+returns-in_err-u-clause-wrote g c a e = set-wrote e (wrote-exit c.from_residual.ensures.1 (wrote-▷-first _ (rw (c.from-2.ensures, c.from.ensures, c.KIND.ensures) at c.in_err-u.ensures.wrote)))
 
 pub returns-in_err-u-2-clause-wrote : goal.returns-in_err-u-2-clause-wrote
 unfolding aps_syntax
 returns-in_err-u-2-clause-wrote g c a e =
     set-wrote e
     (wrote-exit c.from_residual-in_err-u-2.ensures.1
-    (wrote-▷ _ (rw (c.from.ensures, c.NUMBER.ensures) at c.in_ok-u.ensures.wrote) (wrote-▷-first _ (rw c.from-2.ensures at c.in_err-u-2.ensures.wrote))))
+    (wrote-▷ _ (rw (c.from-2.ensures, c.from.ensures, c.KIND.ensures) at c.in_ok-u.ensures.wrote) (wrote-▷-first _ (rw c.from-3.ensures at c.in_err-u-2.ensures.wrote))))
 
 pub returns-in_err-flag-clause-wrote : goal.returns-in_err-flag-clause-wrote
 unfolding aps_syntax
 returns-in_err-flag-clause-wrote g c a e =
     set-wrote e
     (wrote-exit c.from_residual-in_err-flag.ensures.1
-    (wrote-▷ _ (rw (c.from.ensures, c.NUMBER.ensures) at c.in_ok-u.ensures.wrote) (wrote-▷ _ (rw c.from-2.ensures at c.in_ok-u-2.ensures.wrote) (wrote-▷-first _ c.in_err-flag.ensures.wrote))))
+    (wrote-▷ _ (rw (c.from-2.ensures, c.from.ensures, c.KIND.ensures) at c.in_ok-u.ensures.wrote) (wrote-▷ _ (rw c.from-3.ensures at c.in_ok-u-2.ensures.wrote) (wrote-▷-first _ c.in_err-flag.ensures.wrote))))
 
 pub returns-in_err-write-clause-wrote : goal.returns-in_err-write-clause-wrote
 unfolding aps_syntax
 returns-in_err-write-clause-wrote g c a e =
     set-wrote e
     (wrote-exit c.from_residual-in_err-write.ensures.1
-    (wrote-▷ _ (rw (c.from.ensures, c.NUMBER.ensures) at c.in_ok-u.ensures.wrote)
-    (wrote-▷ _ (rw c.from-2.ensures at c.in_ok-u-2.ensures.wrote) (wrote-▷ _ c.in_ok-flag.ensures.wrote (wrote-▷-first _ c.in_err-write.ensures.wrote)))))
+    (wrote-▷ _ (rw (c.from-2.ensures, c.from.ensures, c.KIND.ensures) at c.in_ok-u.ensures.wrote)
+    (wrote-▷ _ (rw c.from-3.ensures at c.in_ok-u-2.ensures.wrote) (wrote-▷ _ c.in_ok-flag.ensures.wrote (wrote-▷-first _ c.in_err-write.ensures.wrote)))))
 
 pub returns-clause-wrote : goal.returns-clause-wrote
 unfolding aps_syntax
 returns-clause-wrote g c a e =
     set-wrote e
-    (wrote-▷ _ (rw (c.from.ensures, c.NUMBER.ensures) at c.in_ok-u.ensures.wrote)
-    (wrote-▷ _ (rw c.from-2.ensures at c.in_ok-u-2.ensures.wrote) (wrote-▷ _ c.in_ok-flag.ensures.wrote (wrote-▷ _ c.in_ok-write.ensures.wrote c.flag-2.ensures.wrote))))
+    (wrote-▷ _ (rw (c.from-2.ensures, c.from.ensures, c.KIND.ensures) at c.in_ok-u.ensures.wrote)
+    (wrote-▷ _ (rw c.from-3.ensures at c.in_ok-u-2.ensures.wrote) (wrote-▷ _ c.in_ok-flag.ensures.wrote (wrote-▷ _ c.in_ok-write.ensures.wrote c.flag-2.ensures.wrote))))

@@ -1,8 +1,0 @@
--- `no_cc`: each field is the inferred value.
-use mathlib.Core.Path.{refl}
-use Rattle.aps.specs.AlfSyntax.{to_cc}
-use Rattle.aps.proofs.alf.no_cc.Goals as goal
-
-pub returns : goal.returns
-unfolding to_cc
-returns c = refl

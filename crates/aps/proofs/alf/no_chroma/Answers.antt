@@ -1,8 +1,0 @@
--- `no_chroma`: each field is the inferred value.
-use mathlib.Core.Path.{refl}
-use Rattle.aps.specs.AlfSyntax.{to_chroma}
-use Rattle.aps.proofs.alf.no_chroma.Goals as goal
-
-pub returns : goal.returns
-unfolding to_chroma
-returns c = refl

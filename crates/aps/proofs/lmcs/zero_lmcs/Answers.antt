@@ -1,8 +1,0 @@
--- `zero_lmcs`: every field zero.
-use mathlib.Core.Path.{refl}
-use Rattle.aps.specs.ApsSyntax.{zero_lmcs}
-use Rattle.aps.proofs.lmcs.zero_lmcs.Goals as goal
-
-pub returns : goal.returns
-unfolding zero_lmcs
-returns c = refl

@@ -1,8 +1,0 @@
--- `zero_scaling`: arrays of zeros, as defined.
-use mathlib.Core.Path.{refl}
-use Rattle.aps.specs.ApsSyntax.{zero_scaling}
-use Rattle.aps.proofs.scaling_list.zero_scaling.Goals as goal
-
-pub returns : goal.returns
-unfolding zero_scaling
-returns c = refl
