@@ -104,7 +104,7 @@ pub struct Reading<T> {
 }
 
 // A set without its arrays.
-#[derive(Clone, Copy)]
+#[derive(Clone, Copy, Debug, PartialEq, Eq)]
 pub struct ApsHead {
     pub kind: ApsKind,
     pub aps_adaptation_parameter_set_id: u8,
@@ -113,23 +113,6 @@ pub struct ApsHead {
 }
 
 // Every field zero, false or the first case.
-impl Default for VvcAps {
-    ghost is_default = { λ a. a ≡ empty_set };
-
-    fn default() -> Self {
-        VvcAps {
-            kind: ApsKind::Alf,
-            aps_adaptation_parameter_set_id: 0,
-            aps_chroma_present_flag: false,
-            aps_extension_flag: false,
-            alf: VvcAlfData::default(),
-            lmcs: VvcLmcsData::default(),
-            scaling: VvcScalingListData::default(),
-        }
-    }
-}
-
-// The empty set's head.
 impl Default for ApsHead {
     ghost is_default = { λ h. h ≡ head_of empty_set };
 
@@ -139,6 +122,23 @@ impl Default for ApsHead {
             aps_adaptation_parameter_set_id: 0,
             aps_chroma_present_flag: false,
             aps_extension_flag: false,
+        }
+    }
+}
+
+impl Default for VvcAps {
+    ghost is_default = { λ a. a ≡ empty_set };
+
+    fn default() -> Self {
+        let head = ApsHead::default();
+        VvcAps {
+            kind: head.kind,
+            aps_adaptation_parameter_set_id: head.aps_adaptation_parameter_set_id,
+            aps_chroma_present_flag: head.aps_chroma_present_flag,
+            aps_extension_flag: head.aps_extension_flag,
+            alf: VvcAlfData::default(),
+            lmcs: VvcLmcsData::default(),
+            scaling: VvcScalingListData::default(),
         }
     }
 }
@@ -160,7 +160,7 @@ pub(crate) fn open_rbsp(bytes: &[u8]) -> Result<(Reader<'_>, ApsHead), Refusal>
         kind,
         aps_adaptation_parameter_set_id: id as u8,
         aps_chroma_present_flag: chroma,
-        aps_extension_flag: false,
+        ..ApsHead::default()
     };
     Ok((reader, head))
 }

@@ -62,67 +62,27 @@ module _ (s out : List ℕ) where
 
 -- ---- a set of one kind
 
--- the bytes due by what is sent
-abbrev due : ApsData → Outcome (List ℕ)
-due x =
-    cond x.1.1.1.1 (refused 3)
-    (cond (aps_syntax.ok x && true) (value (pack (aps_syntax.emit x ++ trailing_bits (length (aps_syntax.emit x)))) (length (pack (aps_syntax.emit x ++ trailing_bits (length (aps_syntax.emit x)))))) (refused 2))
-
-due-sent : (a : VvcAps) → bytes_due a ≡ due (from_aps a)
-unfolding bytes_due rbsp_due rbsp_bytes rbsp_bits aps via from_aps
-due-sent a = refl
-
--- sets of which the same is sent are written alike
-alike : (a b : VvcAps) (out : List ℕ) → from_aps a ≡ from_aps b → write_aps a out ≡ write_aps b out
-unfolding write_aps
-alike a b out e = ap (λ (o : Outcome (List ℕ)). o then λ bytes n. put_bytes out bytes) (due-sent a ∙ ap due e ∙ sym (due-sent b))
-
--- a kind by its number
-kind_0 : (k : ApsKind) → number_of k ≡ 0 → k ≡ ApsKind.Alf
-kind_0 ApsKind.Alf e = refl
-kind_0 ApsKind.Lmcs e = absurd (omega (arith, e))
-kind_0 ApsKind.Scaling e = absurd (omega (arith, e))
-
-kind_1 : (k : ApsKind) → number_of k ≡ 1 → k ≡ ApsKind.Lmcs
-kind_1 ApsKind.Alf e = absurd (omega (arith, e))
-kind_1 ApsKind.Lmcs e = refl
-kind_1 ApsKind.Scaling e = absurd (omega (arith, e))
-
-kind_2 : (k : ApsKind) → number_of k ≡ 2 → k ≡ ApsKind.Scaling
-kind_2 ApsKind.Alf e = absurd (omega (arith, e))
-kind_2 ApsKind.Lmcs e = absurd (omega (arith, e))
-kind_2 ApsKind.Scaling e = refl
-
--- what is sent of a set by its kind
-abbrev sent : VvcAps → ApsKind → ApsData
-sent a k = (number_of k, (a.aps_adaptation_parameter_set_id, (a.aps_chroma_present_flag, (payload_of k a.aps_chroma_present_flag a.alf a.lmcs a.scaling, a.aps_extension_flag))))
-
--- its own arrays are enough
-module _ (h : ApsHead) (a : VvcAps) (out : List ℕ) (e : h ≡ head_of a) where
-  pub alf-alike : (d : VvcAlfData) → d ≡ a.alf → number_of h.kind ≡ 0
-      → write_aps (alf_set h.aps_adaptation_parameter_set_id h.aps_chroma_present_flag h.aps_extension_flag d) out ≡ write_aps a out
-  unfolding alf_set from_aps
-  alf-alike d f k = rw (e, f) (alike _ a out (ap (sent a) (sym (kind_0 a.kind (sym (ap (λ (h : ApsHead). number_of h.kind) e) ∙ k)))))
-
-  pub lmcs-alike : (d : VvcLmcsData) → d ≡ a.lmcs → number_of h.kind ≡ 1
-      → write_aps (lmcs_set h.aps_adaptation_parameter_set_id h.aps_chroma_present_flag h.aps_extension_flag d) out ≡ write_aps a out
-  unfolding lmcs_set from_aps
-  lmcs-alike d f k = rw (e, f) (alike _ a out (ap (sent a) (sym (kind_1 a.kind (sym (ap (λ (h : ApsHead). number_of h.kind) e) ∙ k)))))
-
-  pub scaling-alike : (d : VvcScalingListData) → d ≡ a.scaling → number_of h.kind ≡ 2
-      → write_aps (scaling_set h.aps_adaptation_parameter_set_id h.aps_chroma_present_flag h.aps_extension_flag d) out ≡ write_aps a out
-  unfolding scaling_set from_aps
-  scaling-alike d f k = rw (e, f) (alike _ a out (ap (sent a) (sym (kind_2 a.kind (sym (ap (λ (h : ApsHead). number_of h.kind) e) ∙ k)))))
+-- each kind has a number of its own
+one-number : (a b : ApsKind) → number_of a ≡ number_of b → a ≡ b
+one-number ApsKind.Alf ApsKind.Alf e = refl
+one-number ApsKind.Alf ApsKind.Lmcs e = absurd (omega (arith, e))
+one-number ApsKind.Alf ApsKind.Scaling e = absurd (omega (arith, e))
+one-number ApsKind.Lmcs ApsKind.Alf e = absurd (omega (arith, e))
+one-number ApsKind.Lmcs ApsKind.Lmcs e = refl
+one-number ApsKind.Lmcs ApsKind.Scaling e = absurd (omega (arith, e))
+one-number ApsKind.Scaling ApsKind.Alf e = absurd (omega (arith, e))
+one-number ApsKind.Scaling ApsKind.Lmcs e = absurd (omega (arith, e))
+one-number ApsKind.Scaling ApsKind.Scaling e = refl
 
 module _ (kind : ApsKind) (s out : List ℕ) where
-  module _ {a : VvcAps} {q : ℕ} (e : parse_aps_rbsp s ≡ value a q) (h : ApsHead) (f : h ≡ head_of a) where
-    pub of-kind : number_of h.kind ≡ number_of kind → write_aps a out ≡ rewrite_of kind s out
+  module _ {a : VvcAps} {q : ℕ} (e : parse_aps_rbsp s ≡ value a q) where
+    pub of-kind : a.kind ≡ kind → write_aps a out ≡ rewrite_of kind s out
     unfolding rewrite_of
-    of-kind k = rw (e, eq-eqb (number_of a.kind) (number_of kind) (sym (ap (λ (h : ApsHead). number_of h.kind) f) ∙ k))
+    of-kind k = rw (e, eq-eqb (number_of a.kind) (number_of kind) (ap number_of k))
 
-    pub other-kind : (number_of h.kind ≡ number_of kind → ⊥) → rewrite_of kind s out ≡ refused 2
+    pub other-kind : (a.kind ≡ kind → ⊥) → rewrite_of kind s out ≡ refused 2
     unfolding rewrite_of
-    other-kind k = rw (e, ne_eqb (number_of a.kind) (number_of kind) (λ (z : number_of a.kind ≡ number_of kind). k (ap (λ (h : ApsHead). number_of h.kind) f ∙ z)))
+    other-kind k = rw (e, ne_eqb (number_of a.kind) (number_of kind) (λ (z : number_of a.kind ≡ number_of kind). k (one-number a.kind kind z)))
 
   pub no_kind : {n : ℕ} → parse_aps_rbsp s ≡ refused n → rewrite_of kind s out ≡ refused n
   unfolding rewrite_of

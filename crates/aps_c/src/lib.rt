@@ -46,14 +46,17 @@ fn answered(
     }
 }
 
+#[tactic(auto, unfolding(crate::specs::Numbers::header_numbers))]
 fn put_header(h: VvcNalHeader, header: &mut [u8; 5])
     ensures { header.new ≡ sets header.old 0 (header_numbers h) }
 {
-    header[0] = h.forbidden_zero_bit;
-    header[1] = h.nuh_reserved_zero_bit;
-    header[2] = h.nuh_layer_id;
-    header[3] = h.nal_unit_type;
-    header[4] = h.nuh_temporal_id_plus1;
+    *header = [
+        h.forbidden_zero_bit,
+        h.nuh_reserved_zero_bit,
+        h.nuh_layer_id,
+        h.nal_unit_type,
+        h.nuh_temporal_id_plus1,
+    ];
 }
 
 pub fn aps_parse_nal_header(unit: &[u8], header: &mut [u8; 5]) -> u32

@@ -3,7 +3,7 @@ ghost use Rattle.std.specs.Prelude.{◌≡◌, ◌+◌, ◌≤◌, ℤ, pos, len
 ghost use Rattle.aps_c.specs.Numbers.{Put, flag_number, luma_numbers, chroma_numbers, cc_numbers, alf_numbers, lmcs_numbers, scaling_numbers, numbers};
 
 use aps::alf::{VvcAlfCcFilters, VvcAlfChroma, VvcAlfData, VvcAlfLuma};
-use aps::aps::{VvcAps, number_of};
+use aps::aps::VvcAps;
 use aps::lmcs::VvcLmcsData;
 use aps::scaling_list::VvcScalingListData;
 
@@ -147,7 +147,7 @@ pub fn put_set(set: &VvcAps, out: &mut [i64; NUMBERS]) -> usize
     ensures { Put out.old 0 (numbers set.now) out.new result }
 {
     let head = [
-        number_of(set.kind),
+        u8::from(set.kind),
         set.aps_adaptation_parameter_set_id,
         u8::from(set.aps_chroma_present_flag),
         u8::from(set.aps_extension_flag),

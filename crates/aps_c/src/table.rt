@@ -42,9 +42,7 @@ pub fn aps_take_unit(table: &mut Table, unit: &[u8], work: &mut [u8]) -> u32
 fn put_counts(c: Counts, counts: &mut [u64; 3])
     ensures { counts.new ≡ sets counts.old 0 (c.accepted ∷ c.refused ∷ c.passed ∷ []) }
 {
-    counts[0] = c.accepted as u64;
-    counts[1] = c.refused as u64;
-    counts[2] = c.passed as u64;
+    *counts = [c.accepted as u64, c.refused as u64, c.passed as u64];
 }
 
 // A stream: how many units were accepted, refused and passed over.
@@ -83,17 +81,10 @@ pub fn aps_lookup(table: &Table, kind: u8, id: u8, set: &mut [i64; NUMBERS]) -> 
     }
 }
 
-fn flag_byte(b: bool) -> u8
-    ensures { result ≡ flag_number b }
-{
-    if b { 1 } else { 0 }
-}
-
 fn put_flags(chroma: bool, extension: bool, flags: &mut [u8; 2])
     ensures { flags.new ≡ sets flags.old 0 (flag_number chroma ∷ flag_number extension ∷ []) }
 {
-    flags[0] = flag_byte(chroma);
-    flags[1] = flag_byte(extension);
+    *flags = [u8::from(chroma), u8::from(extension)];
 }
 
 // The chroma flag and the extension flag of the set held for a kind and an id.

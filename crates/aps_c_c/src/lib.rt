@@ -13,7 +13,11 @@ ghost use Rattle.aps_table.specs.List.{write_list};
 ghost use Rattle.aps_c.specs.TableCodes.{answer_code, counts_left, flags_left, look_code, set_left};
 
 use aps::aps::ApsKind;
+use aps::alf::VvcAlfData;
+use aps::lmcs::VvcLmcsData;
+use aps::scaling_list::VvcScalingListData;
 use aps_c::NUMBERS;
+use aps_c::kinds::{payload_end, payload_rewrite};
 use aps_table::places::Table;
 
 #[unsafe(no_mangle)]
@@ -128,7 +132,7 @@ pub extern "C" fn aps_alf_end(bytes: &[u8], end: &mut [u64; 1]) -> u32
     ensures code { result ≡ code (parse_aps_rbsp bytes.now) }
     ensures end { end.new ≡ place_left (parse_aps_rbsp bytes.now) end.old }
 {
-    aps_c::kinds::aps_alf_end(bytes, end)
+    payload_end::<VvcAlfData>(bytes, end)
 }
 
 // An ALF set read and written again by its own kind, and its length; 2 for a set of another kind.
@@ -138,7 +142,7 @@ pub extern "C" fn aps_alf_rewrite(bytes: &[u8], out: &mut [u8], len: &mut [u64; 
     ensures out { out.new ≡ left out.old (rewrite_of ApsKind.Alf bytes.now out.old) }
     ensures len { len.new ≡ place_left (rewrite_of ApsKind.Alf bytes.now out.old) len.old }
 {
-    aps_c::kinds::aps_alf_rewrite(bytes, out, len)
+    payload_rewrite::<VvcAlfData>(bytes, out, len)
 }
 
 // An LMCS set read by its own kind: whether there is a set, and the bit where reading it ended.
@@ -147,7 +151,7 @@ pub extern "C" fn aps_lmcs_end(bytes: &[u8], end: &mut [u64; 1]) -> u32
     ensures code { result ≡ code (parse_aps_rbsp bytes.now) }
     ensures end { end.new ≡ place_left (parse_aps_rbsp bytes.now) end.old }
 {
-    aps_c::kinds::aps_lmcs_end(bytes, end)
+    payload_end::<VvcLmcsData>(bytes, end)
 }
 
 // An LMCS set read and written again by its own kind, and its length; 2 for a set of another kind.
@@ -157,7 +161,7 @@ pub extern "C" fn aps_lmcs_rewrite(bytes: &[u8], out: &mut [u8], len: &mut [u64;
     ensures out { out.new ≡ left out.old (rewrite_of ApsKind.Lmcs bytes.now out.old) }
     ensures len { len.new ≡ place_left (rewrite_of ApsKind.Lmcs bytes.now out.old) len.old }
 {
-    aps_c::kinds::aps_lmcs_rewrite(bytes, out, len)
+    payload_rewrite::<VvcLmcsData>(bytes, out, len)
 }
 
 // A scaling set read by its own kind: whether there is a set, and the bit where reading it ended.
@@ -166,7 +170,7 @@ pub extern "C" fn aps_scaling_end(bytes: &[u8], end: &mut [u64; 1]) -> u32
     ensures code { result ≡ code (parse_aps_rbsp bytes.now) }
     ensures end { end.new ≡ place_left (parse_aps_rbsp bytes.now) end.old }
 {
-    aps_c::kinds::aps_scaling_end(bytes, end)
+    payload_end::<VvcScalingListData>(bytes, end)
 }
 
 // A scaling set read and written again by its own kind, and its length; 2 for a set of another kind.
@@ -176,7 +180,7 @@ pub extern "C" fn aps_scaling_rewrite(bytes: &[u8], out: &mut [u8], len: &mut [u
     ensures out { out.new ≡ left out.old (rewrite_of ApsKind.Scaling bytes.now out.old) }
     ensures len { len.new ≡ place_left (rewrite_of ApsKind.Scaling bytes.now out.old) len.old }
 {
-    aps_c::kinds::aps_scaling_rewrite(bytes, out, len)
+    payload_rewrite::<VvcScalingListData>(bytes, out, len)
 }
 
 // Every place empty, whatever the bytes were.

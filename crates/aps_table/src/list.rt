@@ -9,7 +9,7 @@ ghost use Rattle.aps_table.specs.Inner.{up_to, most_listed, list_bytes};
 
 use crate::places::{ALF_PLACES, LMCS_PLACES, PLACES, Place, SCALING_PLACES, Table};
 use crate::table::head_held;
-use aps::aps::{Alf, Lmcs, Scaling, number_of, parse_aps_head};
+use aps::aps::{Alf, Lmcs, Scaling, parse_aps_head};
 use aps::nal_header::NAL_TYPE_PREFIX_APS;
 use aps::write::{copy_out, write_nal};
 use bitstream::Refusal;
@@ -71,7 +71,7 @@ fn put_all(table: &Table, buffer: &mut [u8]) -> Result<usize, Refusal>
 fn is_held(table: &Table, place: Place) -> bool
     ensures { result ≡ eqb (present (held table.now (number_of place.kind) place.id)) 1 }
 {
-    if table[place.at()] != number_of(place.kind) * 32 + place.id {
+    if table[place.at()] != u8::from(place.kind) * 32 + place.id {
         return false;
     }
     head_held(table, place).is_ok()

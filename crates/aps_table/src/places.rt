@@ -5,7 +5,7 @@ ghost use Rattle.aps.specs.Kinds.{largest_id, most_bytes};
 ghost use Rattle.aps.specs.ApsSyntax.{number_of};
 ghost use Rattle.aps_table.specs.Places.{named, names, place_at, place_bytes, new_table};
 
-use aps::aps::{Alf, ApsKind, Lmcs, Scaling, number_of};
+use aps::aps::{Alf, ApsKind, Lmcs, Scaling};
 
 // How many places each kind has.
 pub(crate) const ALF_PLACES: usize = Alf::MAX_ID as usize + 1;
@@ -29,19 +29,6 @@ pub fn new_table() -> Table
     ensures { result ≡ new_table }
 {
     [0u8; TABLE_BYTES]
-}
-
-// The kind of a number; none: no kind has it.
-fn kind_of(number: u8) -> Option<ApsKind>
-    ensures none { IfNone result (3 ≤ number) }
-    ensures some { IfSome result (λ kind. number_of kind ≡ number) }
-{
-    match number {
-        Alf::NUMBER => Some(ApsKind::Alf),
-        Lmcs::NUMBER => Some(ApsKind::Lmcs),
-        Scaling::NUMBER => Some(ApsKind::Scaling),
-        _ => None,
-    }
 }
 
 fn max_id(kind: ApsKind) -> u8
@@ -68,12 +55,12 @@ impl Place {
         ensures none { IfNone result (named kind id ≡ false) }
         ensures some { IfSome result (λ place. (number_of place.kind ≡ kind) × (place.id ≡ id)) }
     {
-        let kind = kind_of(kind)?;
-        if id <= max_id(kind) {
-            Some(Place { kind, id })
-        } else {
-            None
+        if let Ok(kind) = ApsKind::try_from(kind) {
+            if id <= max_id(kind) {
+                return Some(Place { kind, id });
+            }
         }
+        None
     }
 
     // The 20 places in order: kind rising, then id rising.
@@ -106,7 +93,7 @@ impl Place {
     pub(crate) fn is_of(self, kind: ApsKind, id: u8) -> bool
         ensures { result ≡ (eqb (number_of kind) (number_of self.kind) && eqb id self.id) }
     {
-        number_of(kind) == number_of(self.kind) && id == self.id
+        kind == self.kind && id == self.id
     }
 
     // The most bytes that a set of its kind takes.

@@ -4,4 +4,4 @@ use Rattle.aps.proofs.aps.VvcApsDefault.default.Goals as goal
 
 pub returns : goal.returns
 unfolding empty_set
-returns c = rw (c.default.ensures, c.default-2.ensures, c.default-3.ensures)
+returns c = rw (c.default-head.ensures, c.default.ensures, c.default-2.ensures, c.default-3.ensures)
