@@ -1,27 +1,18 @@
 -- What is written of a set that is made of numbers or read, and what is answered and left, from what the outcome equals.
 use Prim.Native.Nat.{ℕ}
-use mathlib.Core.Path.{◌≡◌, refl, sym, ap, ◌∙◌}
-use mathlib.Core.Bool.{true, false, cond, ◌&&◌}
-use mathlib.Core.List.{List, ◌++◌}
+use mathlib.Core.Path.{◌≡◌, refl, ap, ◌∙◌}
+use mathlib.Core.Bool.{true, false}
+use mathlib.Core.List.{List}
 use native.Mathlib.Omega.{arith}
 use borrow.Author.Tests.{eqb-true, eq-eqb, ne_eqb}
 use lib.Dec.{eqb}
 use lib.IntN.{ℤ}
 use lib.ListN.{length}
-use Rattle.bitstream.specs.Outcome.{Outcome, value, refused, left, ◌then◌}
-use Rattle.bitstream.specs.Bits.{pack}
-use Rattle.bitstream.specs.Fields.{trailing_bits}
-use Rattle.bitstream.specs.Escapes.{put_bytes}
-use Rattle.aps.specs.Codec.{via}
-use Rattle.aps.specs.ApsSyntax.{ApsData, aps_syntax, aps, from_aps, number_of, payload_of}
-use Rattle.aps.specs.Rbsp.{parse_aps_rbsp, rbsp_bits, rbsp_bytes}
-use Rattle.aps.specs.Reading.{head_of}
-use Rattle.aps.specs.Writing.{rbsp_due, bytes_due, alf_set, lmcs_set, scaling_set, write_aps, write_aps_nal}
-use Rattle.aps.specs.declared.alf.VvcAlfData.{VvcAlfData}
-use Rattle.aps.specs.declared.lmcs.VvcLmcsData.{VvcLmcsData}
-use Rattle.aps.specs.declared.scaling_list.VvcScalingListData.{VvcScalingListData}
+use Rattle.bitstream.specs.Outcome.{Outcome, value, refused, left}
+use Rattle.aps.specs.ApsSyntax.{number_of}
+use Rattle.aps.specs.Rbsp.{parse_aps_rbsp}
+use Rattle.aps.specs.Writing.{write_aps, write_aps_nal}
 use Rattle.aps.specs.declared.aps.ApsKind.{ApsKind}
-use Rattle.aps.specs.declared.aps.ApsHead.{ApsHead}
 use Rattle.aps.specs.declared.aps.VvcAps.{VvcAps}
 use Rattle.aps.proofs.CodecLaws.{and_left}
 use Rattle.aps_c.specs.SetOf.{fits, is_set, set_of}
