@@ -1,4 +1,4 @@
-/* Document 01's example from C: a stream is taken, its sets are looked up, cut and read back; and arguments that are refused. */
+/* The README's example from C: a stream is taken, its sets are looked up, cut and read back; and arguments that are refused. */
 #include "kendwyra.h"
 
 #include <stdio.h>

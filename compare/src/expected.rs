@@ -1,5 +1,5 @@
-//! What each call must answer: inside document 01's domain what the Rust answers, outside it the number of the document's table, and 1 for
-//! a set that ends too early, as document 02 has it.
+//! What each call must answer: the Rust's answer where `document` has no refusal, else that refusal's number, and 1 for a set that ends
+//! too early.
 
 pub mod sets;
 pub mod short;
@@ -14,7 +14,7 @@ use crate::library::Field;
 use crate::{nal, BitstreamError};
 
 /// Refusals that the Rust does not have: it takes inputs of any length and any start and width, and its outputs grow.
-/// The numbers stand in document 01, 'Refused, and with which number'; the order there is 4; 2; 5.
+/// 4 is a long input, 2 a far start or a wide field, 5 a short output or work buffer; in this order.
 pub mod document {
     pub const LONGEST: usize = 65_536;
     pub const FARTHEST: usize = 1_048_576;
@@ -49,7 +49,7 @@ pub mod document {
     }
 }
 
-/// The Rust's three errors by document 01's numbers.
+/// The numbers of the Rust's three errors.
 pub fn number(e: BitstreamError) -> u32 {
     match e {
         BitstreamError::UnexpectedEnd(_) => 1,

@@ -1,4 +1,4 @@
-//! A table and document 01's get the same calls: every short stream, and random sequences of calls with lookups and cuts in between.
+//! A table and a plain model of it get the same calls: every short stream, and random sequences of calls with lookups and cuts in between.
 
 mod make;
 mod sequences;

@@ -127,7 +127,7 @@ pub fn is_aps(unit_type: u8) -> bool {
     unit_type == NAL_TYPE_PREFIX_APS || unit_type == NAL_TYPE_SUFFIX_APS
 }
 
-/// The set of a unit. The refusals 4 and 5 and the work buffer are the document's, since the Rust makes its own buffer. Without
+/// The set of a unit. The refusals 4 and 5 and the work buffer are not the Rust's, which makes its own buffer. Without
 /// `looking` missing bits are not looked for: the Rust alone.
 pub fn read_unit(unit: &[u8], work: &mut [u8], looking: bool) -> Result<VvcAps, u32> {
     document::escape(unit.len())?;

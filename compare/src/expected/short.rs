@@ -1,4 +1,4 @@
-//! A reading that stops at the first missing bit, for document 02's request 6: the fields of a set in the order of the Rust's
+//! A reading that stops at the first missing bit, where a set must get 1: the fields of a set in the order of the Rust's
 //! `parse_aps_rbsp` and of what it calls. It refuses with 1 where a bit is missing, and else with the number of the first broken rule.
 
 use crate::sets::make::diagonal_scan;

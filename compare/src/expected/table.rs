@@ -1,4 +1,4 @@
-//! The table as document 01 has it ('A stream enters the table'): 20 places for what the Rust's `parse_aps` reads, and their list by
+//! The table: 20 places, each with the set last accepted for it as the Rust's `parse_aps` reads it, and their list by
 //! `write_aps_nal`.
 
 use super::{document, number, sets};

@@ -153,7 +153,7 @@ fn record(numbers: &[i64]) -> VvcAps {
     }
 }
 
-/// A step that does not fit an i32: the Rust's subtraction overflows there, and the document says 2.
+/// A step that does not fit an i32: the Rust's subtraction overflows there, and the answer must be 2.
 fn overflows(set: &VvcAps) -> bool {
     let VvcApsPayload::ScalingList(d) = &set.payload else {
         return false;

@@ -18,7 +18,7 @@ pub struct Bytes {
     extensions: bool,
 }
 
-/// RBSPs that document 01 names, two that end where a ue begins, and one of no kind.
+/// Short RBSPs of each kind, taken and refused, two that end where a ue begins, and one of no kind.
 const MARKED: [&[u8]; 16] = [
     &[],
     &[0x00, 0x10],

@@ -1,4 +1,4 @@
--- Document 01's marked bytes: one list, one proof over it. Each row has the bytes or the set, and what the call's definition makes of them.
+-- Marked bytes, whose meaning was fixed before the code: one list, one proof over it. Each row has the bytes or the set, and what the call's definition makes of them.
 use mathlib.Core.Path.{◌≡◌, refl}
 use mathlib.Core.Bool.{Bool, true, false}
 use mathlib.Core.List.{List, [], ◌∷◌, map}
@@ -94,7 +94,7 @@ computed (unescapes s out o) = unescapes s out (ebsp_to_rbsp s out)
 abbrev pub four : List ℕ
 four = 0xAA ∷ 0xAA ∷ 0xAA ∷ 0xAA ∷ []
 
--- document 01, 'Marked bytes', missing bits as document 02's request 6 has them, with some more that are short, written and escaped
+-- the marked bytes, 1 at the first missing bit, with some more that are short, written and escaped
 unfoldable pub rows : List Row
 rows =
     reads [] (refused 1)

@@ -1,4 +1,4 @@
--- Demand 2 at this level: an RBSP that is read is written as it was, and a set that is written is read back.
+-- Round trips at this level: an RBSP that is read is written as it was, and a set that is written is read back.
 use mathlib.Core.Path.{◌≡◌, refl, sym, ap, ◌∙◌}
 use mathlib.Core.Bool.{Bool, true, false, cond}
 use mathlib.Core.List.{List, ◌++◌}

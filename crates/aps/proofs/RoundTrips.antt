@@ -1,4 +1,4 @@
--- Demand 2: a set that was read is written as the bytes it was read from, and a set that was written is read back, as an RBSP and as a unit.
+-- Round trips: a set that was read is written as the bytes it was read from, and a set that was written is read back, as an RBSP and as a unit.
 use mathlib.Core.Path.{◌≡◌, refl, sym, ap, ◌∙◌}
 use mathlib.Core.Bool.{Bool, true, false, cond}
 use mathlib.Core.List.{List, [], ◌++◌, append-nil}

@@ -1,4 +1,4 @@
--- One unit: its header (H.266 7.3.1.2), and the set that it holds (document 01, 'One unit').
+-- One unit: its header (H.266 7.3.1.2), and the set that it holds.
 use Rattle.std.specs.Prelude.{Bool, cond, ◌||◌, List, ◌++◌, ℕ, ◌-◌, ◌/◌, ◌%◌, ltb, eqb, length, get_or, drop, Result, Ok, Err}
 use Rattle.bitstream.specs.Outcome.{Outcome, value, refused, number, ◌then◌}
 use Rattle.bitstream.specs.declared.Refusal.{Refusal}

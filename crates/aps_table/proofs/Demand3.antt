@@ -1,4 +1,4 @@
--- Demand 3 holds: the places of the table follow the book, and the list read back gives the book.
+-- The theorem of the cut: the places of the table follow the book, and the list read back gives the book.
 use Prim.Native.Nat.{ℕ, ◌+◌, ◌/◌, ◌≤◌}
 use mathlib.Core.Path.{◌≡◌, refl, sym, ap, ◌∙◌}
 use mathlib.Core.Bool.{Bool, true, false, cond, ◌&&◌}
@@ -161,7 +161,7 @@ refused-3 : (b : Entries) → any_extended names b ≡ true → list_due b ≡ r
 unfolding list_due
 refused-3 b e = rw e
 
--- demand 3
+-- the theorem of the cut
 pub demand3 : (cs : List Call) → Demand3 cs
 unfolding write_list
 demand3 cs = record {

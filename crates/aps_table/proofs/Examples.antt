@@ -1,4 +1,4 @@
--- Document 01's example stream and its list, and the cases that its rules on streams name: one list, one proof over it.
+-- The README's example stream and its list, and cases of the split, the answers and the list: one list, one proof over it.
 use mathlib.Core.Path.{◌≡◌, refl}
 use mathlib.Core.List.{List, [], ◌∷◌, map}
 use mathlib.Core.Option.{none, some}

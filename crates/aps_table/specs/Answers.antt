@@ -1,4 +1,4 @@
--- Document 01's number and values for each answer of the calls.
+-- The number and values for each answer of the calls.
 use Rattle.std.specs.Prelude.{ℕ, Result, Ok, Err}
 use Rattle.bitstream.specs.Outcome.{number}
 use Rattle.bitstream.specs.declared.Refusal.{Refusal}

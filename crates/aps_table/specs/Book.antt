@@ -1,4 +1,4 @@
--- The book of document 01, 'A cut after any sequence of calls': what is in force. It is fed by the calls alone.
+-- The book, what is in force: an entry for each kind and id, replaced at each unit accepted for it. It is fed by the calls alone.
 use Rattle.std.specs.Prelude.{ℕ, cond, ◌&&◌, List, [], ◌∷◌, eqb}
 use Rattle.std.proofs.Math.Option.{Option, none, some}
 use Rattle.bitstream.specs.Outcome.{Outcome, value, refused}

@@ -1,4 +1,4 @@
--- The calls that change a table: what each does to it and answers (document 01, 'A stream enters the table').
+-- The calls that change a table: what each does to it and answers.
 use Rattle.std.specs.Prelude.{ℕ, cond, List, ltb, length}
 use Rattle.std.proofs.Math.Option.{none, some}
 use Rattle.bitstream.specs.Outcome.{Outcome, value, refused}

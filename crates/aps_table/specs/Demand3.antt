@@ -1,4 +1,4 @@
--- Demand 3 (document 01, 'A cut after any sequence of calls'), over every sequence of calls from a new table.
+-- What a cut gives, over every sequence of calls from a new table.
 use Rattle.std.specs.Prelude.{ℕ, ◌≤◌, ◌<◌, ◌≡◌, true, false, List, [], ◌∷◌, ◌++◌, length, drop}
 use Rattle.std.proofs.Math.Option.{some}
 use Rattle.bitstream.specs.Outcome.{value, refused}
@@ -21,7 +21,7 @@ says (c ∷ cs) t = answer_to c ∷ says cs (table_after c t)
 abbrev pub after : List Call → List ℕ
 after cs = runs cs new_table
 
--- document 01's alike: the lookup of each of the 20 kinds and ids answers the same from both
+-- alike: the lookup of each of the 20 kinds and ids answers the same from both
 abbrev pub Alike : List ℕ → List ℕ → Type 0
 Alike t u = (k i : ℕ) → Names k i → looked_up t k i ≡ looked_up u k i
 
@@ -31,7 +31,7 @@ read_back l n = table_after (stream l n) new_table
 
 -- what holds of the list l after the calls cs
 pub record Cut (cs : List Call) (l : List ℕ) : Type 0 where
-  -- it is document 01's list of the book's sets, and no longer than a stream may be
+  -- it is the list of the book's sets, and no longer than a stream may be
   pub is-the-list : list_due (book cs) ≡ value l (length l)
   pub short : length l ≤ 65536
   -- it is written where the output has room, else 5

@@ -1,4 +1,4 @@
--- The list at a cut (document 01, 'A stream enters the table'). 3; 2; 5.
+-- The list at a cut: every filled place, kind rising, then id rising. 3; 2; 5.
 use Rattle.std.specs.Prelude.{ℕ, ◌+◌, Bool, false, cond, ◌||◌, List, [], ◌∷◌, ◌++◌, length}
 use Rattle.std.proofs.Math.Option.{Option, none, some}
 use Rattle.bitstream.specs.Outcome.{Outcome, value, refused, ◌then◌}

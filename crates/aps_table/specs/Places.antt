@@ -1,4 +1,4 @@
--- The 20 places of the table (document 01, 'A stream enters the table'): where each stands in the table's bytes, and the set that it holds.
+-- The 20 places of the table, one for each kind and id: where each stands in the table's bytes, and the set that it holds.
 use Rattle.std.specs.Prelude.{ℕ, zero, suc, ◌+◌, ◌*◌, ◌≤◌, ◌<◌, Bool, cond, ◌&&◌, List, [], ◌∷◌, ◌++◌, leb, ltb, eqb, take, drop, replicate}
 use Rattle.std.proofs.Math.Option.{Option, none, some}
 use Rattle.bitstream.specs.Outcome.{Outcome, value, refused}

@@ -1,4 +1,4 @@
--- The units of a stream in the byte stream form (H.266 Annex B; document 01, 'A stream enters the table'); none where the split is refused.
+-- The units of a stream in the byte stream form (H.266 Annex B); none where the split is refused.
 use Rattle.std.specs.Prelude.{ℕ, zero, suc, List, [], ◌∷◌, ◌++◌}
 use Rattle.std.proofs.Math.Option.{Option, none, some}
 

@@ -1,4 +1,4 @@
--- What a unit comes to, and what units do to the table, the work buffer and the counts (document 01, 'A stream enters the table').
+-- What a unit comes to, and what units do to the table, the work buffer and the counts.
 use Rattle.std.specs.Prelude.{ℕ, ◌+◌, ◌/◌, Bool, cond, not, ◌&&◌, List, [], ◌∷◌, leb, length, get_or, take}
 use Rattle.std.proofs.lemmas.List.Edits.{sets}
 use Rattle.bitstream.specs.Outcome.{Outcome, value, refused}

@@ -1,5 +1,5 @@
 -- Worked rows for the definitions of fields: one list, one proof over it.
--- The codes of the values 0 to 9, one after the other, are the bytes A6 42 98 E2 04 8A (H.266 clause 9.2); 00 10 is document 01's first set.
+-- The codes of the values 0 to 9, one after the other, are the bytes A6 42 98 E2 04 8A (H.266 clause 9.2); 00 10 is the ALF set with nothing sent.
 use Prim.Native.Nat.{ℕ}
 use mathlib.Core.Path.{◌≡◌, refl}
 use mathlib.Core.List.{List, [], ◌∷◌, ◌++◌, map}

@@ -1,4 +1,4 @@
--- Escapes (H.266 clauses 7.3.1.1 and 7.4.2.1; document 01, 'One unit' and 'Fields down to bits'), and what the two calls answer and leave. 4; 5.
+-- Escapes (H.266 clauses 7.3.1.1 and 7.4.2.1), and what the two calls answer and leave. 4; 5.
 -- Both ways go through the bytes once and carry the number z of zero bytes that stand right before.
 use Rattle.std.specs.Prelude.{ℕ, zero, suc, ◌≤◌, Bool, true, false, cond, not, ◌&&◌, List, [], ◌∷◌, ◌++◌, leb, ltb, eqb, length, drop}
 use Rattle.bitstream.specs.Outcome.{Outcome, value, refused}

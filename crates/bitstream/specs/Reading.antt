@@ -1,4 +1,4 @@
--- What the field reads of the bytes s at bit p answer (document 01, 'Fields down to bits'). 4; 2; then the field.
+-- What the field reads of the bytes s at bit p answer. 4; 2; then the field.
 use Rattle.std.specs.Prelude.{ℕ, ◌<◌, List, Bool, false, cond, length, ltb, ℤ, Result, Ok, Err}
 use Rattle.bitstream.specs.Outcome.{Outcome, value, refused, number}
 use Rattle.bitstream.specs.Fields.{read_u, lacks, read_ue, ue_asked, read_se, read_trailing}

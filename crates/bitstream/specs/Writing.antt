@@ -1,4 +1,4 @@
--- What the field writes into the bytes out at bit p answer and leave (document 01, 'Fields down to bits'). 2; 5; then the field.
+-- What the field writes into the bytes out at bit p answer and leave. 2; 5; then the field.
 use Rattle.std.specs.Prelude.{ℕ, ◌+◌, ◌*◌, List, [], ◌∷◌, cond, length, ltb, ℤ}
 use Rattle.bitstream.specs.Outcome.{Outcome, value, refused}
 use Rattle.bitstream.specs.Bits.{field_bits, put_bits}

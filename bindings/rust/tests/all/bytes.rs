@@ -15,7 +15,7 @@ pub fn bits(text: &str) -> Vec<u8> {
         .collect()
 }
 
-/// Document 01's example: an LMCS set of type 17, then an ALF set of type 18.
+/// The README's example: an LMCS set of type 17, then an ALF set of type 18.
 pub fn example() -> Vec<u8> {
     hex("00 00 00 01 00 89 20 42 12 00 00 00 01 00 91 00 10")
 }

@@ -1,4 +1,4 @@
-//! Document 01's marked bytes, and RBSPs that end too early.
+//! Marked bytes, short sequences whose meaning was fixed before the code, and RBSPs that end too early.
 
 use crate::bytes::{example, example_list, hex};
 use kendwyra::escapes::{ebsp_to_rbsp, rbsp_to_ebsp};
