@@ -4,9 +4,9 @@ use mathlib.Core.List.{List, [], ◌∷◌, ◌++◌, append_assoc}
 use Prim.Native.Nat.{ℕ, zero, suc, ◌+◌, ◌-◌, ◌*◌, ◌≤◌, ◌<◌}
 use native.Mathlib.Nat.{zero-add, add-suc, mul-zero, mul-suc, suc-mul}
 use native.Mathlib.Omega.{arith}
-use borrow.Rule.Slice.PartMut.{put_mid, mid_of}
+use borrow.Rule.Slice.PartMut.{put_mid}
 use lib.ListN.{length, take, drop, set, replicate, length-set, length-drop, length-append}
-use Rattle.std.proofs.lemmas.List.{take-replicate, drop-replicate}
+use Rattle.std.proofs.lemmas.List.{drop-replicate}
 use lib.Seq.{sets, sets-eq, take-set-le, drop-set-add, length-take-le, take_at, drop_at, drop-drop}
 use Rattle.aps.specs.Elements.{zipped, rows_of}
 use Rattle.aps.proofs.Steps.{zipped-set}
@@ -18,10 +18,7 @@ module _ {A : Type 0} where
       let e : drop k (drop o l) ≡ drop (o + length xs) l = drop-drop k o l ∙ ap (λ (m : ℕ). drop m l) (omega arith) in
       ap (λ (r : List A). take o l ++ (xs ++ r)) e ∙ sym (append_assoc (take o l) xs (drop (o + length xs) l)) ∙ sym (sets-eq xs l o (omega arith))
 
-  -- entries of what is inferred: a part of them, and those after a part that was stored
-  pub part-blank : (l : List A) (o k n : ℕ) (v : A) → drop o l ≡ replicate n v → k ≤ n → mid_of o k l ≡ replicate k v
-  part-blank l o k n v e h = rw e (take-replicate k n v h)
-
+  -- entries of what is inferred after a part that was stored
   pub rest-blank : (l xs : List A) (o n : ℕ) (v : A) → drop o l ≡ replicate n v → o + length xs ≤ length l → drop (o + length xs) (sets l o xs) ≡ replicate (n - length xs) v
   rest-blank l xs o n v e h =
       let f : drop (o + length xs) (sets l o xs) ≡ drop (o + length xs) l =

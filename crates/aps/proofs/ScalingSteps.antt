@@ -3,7 +3,6 @@ use mathlib.Core.Path.{◌≡◌, refl, sym, ap, ◌∙◌}
 use mathlib.Core.Bool.{Bool, true, false, cond, not, ◌&&◌, ◌||◌}
 use mathlib.Core.List.{List, [], ◌∷◌, ◌++◌, append_assoc, append-nil}
 use Prim.Native.Nat.{ℕ, zero, suc, ◌+◌, ◌-◌, ◌*◌, ◌%◌, ◌≤◌, ◌<◌}
-use native.Mathlib.Nat.{sub-zero}
 use native.Mathlib.Numerals.{add-one}
 use native.Mathlib.Omega.{arith}
 use borrow.Author.Tests.{leb-true}
@@ -108,14 +107,6 @@ pub record Summing (id n : ℕ) (dc : ℤ) (w0 : Reader) (i : ℕ) (a : List ℤ
   pub size : length a ≡ n
 
 module _ (id n : ℕ) (dc : ℤ) {w0 : Reader} where
-  pub summing-start : {a : List ℤ} → length a ≡ n → nat_abs dc ≤ 128 → Summing id n dc w0 0 a dc w0
-  summing-start {a} e h =
-      record { left = rw (sub-zero n) (go ((sums id 0 n dc).read w0.bytes.now w0.at)); bytes = refl; small = omega arith; size = e }
-    where
-      go : (o : Outcome (List ℤ)) → map_outcome (λ l. take 0 a ++ l) o ≡ o
-      go (value l q) = refl
-      go (refused k) = refl
-
   module _ {i : ℕ} {a : List ℤ} {sum : ℤ} {w1 : Reader} (S : Summing id n dc w0 i a sum w1) where
     pub summing-more : {v : ℤ} {w2 : Reader} → i < n → Reads (step_at id i sum) (value v w2.at) w1 w2 → Summing id n dc w0 (i + 1) (set a i v) v w2
     summing-more {v} {w2} h r =

@@ -1,12 +1,12 @@
 -- Bytes put at the start of an output, a unit, and the two calls.
-use borrow.Author.Tests.{lt-ltb, le-ltb, ltb-true, ltb-false, eqb-true}
+use borrow.Author.Tests.{lt-ltb, le-ltb, ltb-true, ltb-false}
 use borrow.Rule.Slice.PartMut.{mid_of, put_mid, put_same}
 use mathlib.Core.Path.{◌≡◌, refl, sym, ap, ◌∙◌}
-use mathlib.Core.Bool.{Bool, true, false, cond, ◌||◌}
+use mathlib.Core.Bool.{Bool, true, false, cond}
 use mathlib.Core.List.{List, [], ◌∷◌, ◌++◌, append-nil}
 use Prim.Native.Nat.{ℕ, suc, ◌+◌, ◌-◌, ◌*◌, ◌≤◌, ◌<◌}
 use native.Mathlib.Omega.{arith}
-use lib.Dec.{ltb, eqb}
+use lib.Dec.{ltb}
 use lib.ListN.{length, drop, set, length-drop}
 use lib.Seq.{take-length, drop-length, length-take-le}
 use Rattle.std.proofs.Common.{Result}
@@ -72,15 +72,6 @@ pub answer-exit : (out : List ℕ) (r : Result ℕ Refusal) (why : Refusal) {o :
 answer-exit out r why h e = let p = err_from_is_err_and r h in (rw (p.1, p.2) e.0, e.1)
 
 -- ---- a unit
-
--- the unit types of a set are below 32
-pub aps-type : (type : ℕ) → is_aps type ≡ true → type < 32
-aps-type type e = go (eqb type 17) (eqb type 18) refl refl e
-  where
-    go : (a b : Bool) → eqb type 17 ≡ a → eqb type 18 ≡ b → (a || b) ≡ true → type < 32
-    go true b f g e = let h = eqb-true type 17 f in omega arith
-    go false true f g e = let h = eqb-true type 18 g in omega arith
-    go false false f g e = absurd (let z : ◌≡◌ {A = ℕ} 0 1 = cc in omega arith)
 
 -- the two bytes of the header before what was put after them
 head-set : (out last e : List ℕ) (t : ℕ) → 2 ≤ length out → last ≡ e ++ drop (length e) (mid_of 2 (length out - 2) out)

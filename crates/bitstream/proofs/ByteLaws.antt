@@ -4,7 +4,7 @@ use mathlib.Core.Path.{◌≡◌, sym, ap, ◌∙◌}
 use native.Mathlib.Nat.{add_assoc, add-mul, mul_assoc, one-mul}
 use native.Mathlib.Omega.{arith}
 use lib.Arith.{digits_lt}
-use lib.Pow.{pow-add, pow_mono, shl_lt, shr_lt, shl-shr, shr-shr, shl_exact, mod-pow-add}
+use lib.Pow.{pow-add, shl_lt, shr_lt, shl-shr, shr-shr, shl_exact, mod-pow-add}
 use lib.Bits.{shifted_even}
 use Rattle.bitstream.specs.Bits.{put_in_byte}
 
@@ -51,10 +51,6 @@ module _ (x k v n : ℕ) (hx : x < 256) (hk : k + n ≤ 8) (hv : v < 2 ^ n) wher
 
   joined-lt : x / 2 ^ (8 - k) * 2 ^ n + v < 2 ^ (k + n)
   joined-lt = rw (pow-add 2 k n) (digits_lt kept-lt hv)
-
-  -- the bits kept with those put behind them
-  pub joined_small : x / 2 ^ (8 - k) * 2 ^ n + v < 256
-  joined_small = omega (arith, joined-lt, pow_mono hk)
 
   -- what is made is a byte
   pub chunk-lt : (x / 2 ^ (8 - k) * 2 ^ n + v) * 2 ^ (8 - k - n) < 256

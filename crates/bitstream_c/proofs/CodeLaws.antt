@@ -31,14 +31,6 @@ module _ {A : Type 0} {o : Outcome A} where
   unfolding PlaceFits
   place-fits f h = rw h at f
 
--- an outcome equal to another stands for it
-module _ {A : Type 0} {o o' : Outcome A} where
-  pub code-on : {r : ℕ} → r ≡ code o → o ≡ o' → r ≡ code o'
-  code-on h e = cc
-
-  pub placed_on : {after : List ℕ} (before : List ℕ) → after ≡ placed o before → o ≡ o' → after ≡ placed o' before
-  placed_on before h e = cc
-
 -- a flag as a number
 flag : (b : Bool) → bool_byte b ≡ cond b 1 0
 flag true = refl

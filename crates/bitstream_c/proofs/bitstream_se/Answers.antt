@@ -4,6 +4,3 @@ use Rattle.bitstream_c.proofs.bitstream_se.Goals as goal
 
 pub signed-requires : goal.signed-requires
 signed-requires c = rw c.se.ensures.field (se-fits _ _)
-
-pub returns : goal.returns
-returns c = record { code = cc; answer = cc }

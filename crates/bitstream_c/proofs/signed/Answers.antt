@@ -3,16 +3,11 @@ use mathlib.Core.Path.{◌∙◌, ap}
 use borrow.Author.Rules.{rules}
 use mir.Syntax.{w32, w64}
 use mir.Val.{SFits}
-use mir.Facts.{to_z-of_z, to_z_pos}
+use mir.Facts.{to_z_pos}
 use Rattle.bitstream.specs.Reading.{outcome_field, is_lacking}
-use Rattle.bitstream.proofs.Signed.{wide, wide_is}
+use Rattle.bitstream.proofs.Signed.{wide_is}
 use Rattle.bitstream_c.proofs.CodeLaws.{code-value, code-refused, signed-value, signed-refused, place-fits}
 use Rattle.bitstream_c.proofs.signed.Goals as goal
-
-pub overflow_cast-answer : goal.overflow_cast-answer
-overflow_cast-answer c =
-    let f : SFits w32 c.in-Ok.field.value = search rules in
-    rw (to_z-of_z f) (wide _ f)
 
 pub overflow_cast-answer-in-Ok : goal.overflow_cast-answer-in-Ok
 overflow_cast-answer-in-Ok c = record { sfits = place-fits c.requires (ap outcome_field c.in-Ok.is) }

@@ -1,28 +1,16 @@
 -- `read_alternatives`: the loop has stored the first alternatives as rows.
 use borrow.Author.Rules.{rules}
 use mathlib.Core.Path.{◌≡◌}
-use mathlib.Core.Bool.{false}
 use Prim.Native.Nat.{◌+◌, ◌-◌, ◌*◌}
 use native.Mathlib.Omega.{arith}
 use lib.ListN.{length}
 use Rattle.aps.proofs.AlternativeSteps.{rows-from, rows-more, rows-refused, rows-done}
 use Rattle.aps.proofs.ReaderLaws.{fills-exit}
-use Rattle.aps.proofs.RowLaws.{part-stored, part-blank}
+use Rattle.aps.proofs.RowLaws.{part-stored}
 use Rattle.aps.proofs.alf_chroma.read_alternatives.Goals as goal
 
 pub loop-row-init : goal.loop-row-init
 loop-row-init c = rows-from c.args.clip c.args.count_minus1 c.requires.1 c.requires.2 c.requires.3
-
-pub read_alternative-requires : goal.read_alternative-requires
-read_alternative-requires c =
-    let o = c.loop-row in
-    let R = o.invariant in
-    let k : 6 * o.row + 6 - 6 * o.row ≡ 6 = omega arith in
-    rw k (
-      part-blank o.abs (6 * o.row) 6 _ 0 R.rest-abs (omega arith),
-      part-blank o.sign (6 * o.row) 6 _ false R.rest-sign (omega arith),
-      part-blank o.clips (6 * o.row) 6 _ 0 R.rest-clips (omega arith),
-    )
 
 pub returns-in_err-read_alternative-clause-field : goal.returns-in_err-read_alternative-clause-field
 returns-in_err-read_alternative-clause-field c =

@@ -1,17 +1,12 @@
 -- `ceil_log2`: the definition's two cases.
 use borrow.Author.Tests.{le-leb, lt-leb}
 use native.Mathlib.Omega.{arith}
-use Prim.Native.Nat.{◌-◌}
-use lib.Count.{leading_le}
 use Rattle.aps.specs.AlfSyntax.{ceil_log2}
 use Rattle.aps.proofs.alf_fields.ceil_log2.Goals as goal
 
 pub returns-then-x-le1 : goal.returns-then-x-le1
 unfolding ceil_log2
 returns-then-x-le1 c = (rw (le-leb c.args.x 1 c.if-x-le1.true), omega arith)
-
-pub overflow_sub-result-2 : goal.overflow_sub-result-2
-overflow_sub-result-2 c = leading_le 32 (c.args.x - 1)
 
 pub returns : goal.returns
 unfolding ceil_log2

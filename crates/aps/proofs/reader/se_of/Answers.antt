@@ -1,6 +1,6 @@
 -- `se_of`: the two cases of `se_value`.
 use native.Mathlib.Omega.{arith}
-use Rattle.bitstream.proofs.CodeLaws.{se-odd, se-even, se-even-fits}
+use Rattle.bitstream.proofs.CodeLaws.{se-odd, se-even}
 use Rattle.aps.proofs.IntegerLaws.{se-abs}
 use Rattle.aps.proofs.reader.se_of.Goals as goal
 
@@ -9,9 +9,6 @@ returns-then-k-eq1 c =
     let k = c.args.k in
     let e = se-odd k (omega arith) c.if-k-eq1.true in
     (e, rw e (se-abs k c.requires))
-
-pub overflow_sub-result : goal.overflow_sub-result
-overflow_sub-result c = se-even-fits _ (omega arith) c.if-k-eq1.false
 
 pub returns : goal.returns
 returns c =

@@ -1,22 +1,19 @@
 -- `read_sums`: the loop has stored the sums before i.
 use borrow.Author.Rules.{rules}
-use mathlib.Core.Path.{◌≡◌, refl}
+use mathlib.Core.Path.{◌≡◌}
 use native.Mathlib.Omega.{arith}
 use mir.Syntax.{w32}
 use mir.Val.{to_z, of_z}
 use mir.Facts.{to_z-of_z}
 use Rattle.aps.proofs.ReaderLaws.{fills-exit, reads-kept}
 use Rattle.aps.proofs.ScalingLaws.{entries-le}
-use Rattle.aps.proofs.ScalingSteps.{summing-start, summing-more, summing-refused, summing-done}
+use Rattle.aps.proofs.ScalingSteps.{summing-more, summing-refused, summing-done}
 use Rattle.std.proofs.lemmas.Int.{to_z-of_z as to_z-of_z'}
 use Rattle.aps.proofs.scaling_list_data.read_sums.Goals as goal
 use Rattle.aps.proofs.scaling_list_data.read_sums.Goals.{Start}
 
 dc-is : (c : Start) → to_z w32 (of_z w32 c.args.dc) ≡ c.args.dc
 dc-is c = to_z-of_z c.ranges.dc
-
-pub loop-i-init : goal.loop-i-init
-loop-i-init c = rw (dc-is (goal.at.loop-i-init c).Start) (summing-start _ _ _ refl c.requires.1)
 
 pub read_step-requires : goal.read_step-requires
 read_step-requires c =

@@ -1,27 +1,16 @@
 -- `write_nal`: type and length are judged, then the escaped bytes stand after the header's two, if there is room for both.
-use borrow.Author.Rules.{rules}
-use borrow.Rule.Slice.PartMut.{put_mid}
 use mathlib.Core.Path.{◌≡◌, sym, ◌∙◌}
 use mathlib.Core.Bool.{true}
-use Prim.Native.Nat.{◌-◌, ◌<◌}
 use native.Mathlib.Omega.{arith}
-use lib.ListN.{length}
-use lib.Seq.{lt-length-set}
 use Rattle.aps.specs.Unit.{is_aps}
-use Rattle.aps.proofs.UnitWrites.{answered-as, answer-exit, aps-type, unit-type, unit-long, unit-due, unit-short, unit-within, unit-put, unit-refused}
+use Rattle.aps.proofs.UnitWrites.{answered-as, answer-exit, unit-type, unit-long, unit-due, unit-short, unit-within, unit-put, unit-refused}
 use Rattle.aps.proofs.write.write_nal.Goals as goal
-use Rattle.aps.proofs.write.write_nal.Goals.{Else-not-is_aps, In_ok-n}
+use Rattle.aps.proofs.write.write_nal.Goals.{Else-not-is_aps}
 
 -- what was judged: the type is one of a set's
 judged : (c : Else-not-is_aps) → is_aps c.args.unit_type ≡ true
 judged c =
     sym c.is_aps.ensures ∙ c.if-not-is_aps.false
-
--- the type is below 32
-below : (c : In_ok-n) → c.args.unit_type < 32
-below c =
-    let judged : is_aps c.args.unit_type ≡ true = sym c.is_aps.ensures ∙ c.if-not-is_aps.false in
-    aps-type _ judged
 
 pub returns-then-not-is_aps : goal.returns-then-not-is_aps
 returns-then-not-is_aps c =
@@ -37,19 +26,6 @@ pub returns-then-out-lt2 : goal.returns-then-out-lt2
 returns-then-out-lt2 c =
     let a = c.args in
     let r = answered-as a.out.now (unit-due a.out.now a.rbsp.now a.unit_type (judged (goal.at.returns-then-out-lt2 c).Else-not-is_aps) (omega arith)) (unit-short a.out.now a.rbsp.now a.unit_type (omega arith)) in record { answer = r.0; bytes = r.1 }
-
-pub overflow_mul-out : goal.overflow_mul-out
-overflow_mul-out c = omega (arith, (below c))
-
-pub overflow_add-out : goal.overflow_add-out
-overflow_add-out c = omega (arith, (below c))
-
-pub bounds-out-1 : goal.bounds-out-1
-bounds-out-1 c =
-    let a = c.args in
-    let l = put_mid 2 (length a.out.now - 2) a.out.now c.rbsp_to_ebsp.new.out in
-    let e : length l ≡ length a.out.now = search rules in
-    lt-length-set l 0 0 (omega (arith, e))
 
 pub overflow_add-result : goal.overflow_add-result
 overflow_add-result c =

@@ -1,7 +1,6 @@
 -- `long_ue`: the zeros, where the suffix begins, and the suffix; the value fits by `ue-lt`.
 use mathlib.Core.Path.{sym}
 use native.Mathlib.Omega.{arith}
-use lib.Pow.{pow_pos}
 use Rattle.bitstream.specs.Fields.{ue_value}
 use Rattle.bitstream.proofs.ByteLaws.{one_shl}
 use Rattle.bitstream.proofs.FieldLaws.{field_lt}
@@ -13,11 +12,6 @@ pub returns-then-z-ge32 : goal.returns-then-z-ge32
 returns-then-z-ge32 c =
     let p = c.args.place in
     let r = ue-not p.bytes.now p.bit p.short p.start (sym c.leading_zeros-z.ensures.0) c.if-z-ge32.true in record { field = r.0; lacking = r.1 }
-
-pub overflow_sub-result : goal.overflow_sub-result
-overflow_sub-result c =
-    let z = c.leading_zeros-z.result in
-    rw (one_shl 32 z (omega arith)) (pow_pos z)
 
 pub overflow_add-result : goal.overflow_add-result
 unfolding ue_value

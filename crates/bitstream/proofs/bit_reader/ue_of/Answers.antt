@@ -20,6 +20,3 @@ returns-in-Some c =
     let e = rw c.in-Some.is at c.requires in
     let k = window-found (window-start p.bytes.now p.bit _ refl) e (omega (arith, code-most _ e)) in
     let r = lacking-value _ (ue-in p.bytes.now p.bit p.short p.start ∙ k.0) (c.lacks.ensures ∙ sym (ap (lacks p.bytes.now p.bit) k.1)) in record { field = r.0; lacking = r.1 }
-
-pub returns-in-None : goal.returns-in-None
-returns-in-None c = record { field = c.long_ue.ensures.field; lacking = c.long_ue.ensures.lacking }

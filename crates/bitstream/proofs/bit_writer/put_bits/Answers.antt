@@ -1,25 +1,12 @@
 -- `put_bits`: what is still to be written, the low `left` bits at p, makes of the bytes so far what the whole field makes of those at entry.
 use native.Mathlib.Omega.{arith}
-use native.Mathlib.Nat.{mod-lt}
 use Prim.Native.Nat.{ℕ, ◌+◌, ◌-◌, ◌/◌}
-use mathlib.Core.Path.{◌≡◌, refl, sym, ap, ◌∙◌}
+use mathlib.Core.Path.{◌≡◌, sym, ap, ◌∙◌}
 use lib.ListN.{length-set}
-use lib.Pow.{pow_pos}
 use Rattle.bitstream.specs.Bits.{put_bits, field_bits}
 use Rattle.bitstream.proofs.ByteLaws.{one_shl}
 use Rattle.bitstream.proofs.WriteLaws.{put-none, put-turn}
 use Rattle.bitstream.proofs.bit_writer.put_bits.Goals as goal
-
-pub loop-left-init : goal.loop-left-init
-loop-left-init c = (refl, omega arith, refl, refl)
-
-pub nonzero_rem-bits : goal.nonzero_rem-bits
-nonzero_rem-bits c = rw (one_shl 64 c.min-c.result (omega arith)) (pow_pos c.min-c.result)
-
-pub put_in_byte-requires : goal.put_in_byte-requires
-put_in_byte-requires c =
-    let w = c.min-c.result in
-    (omega arith, rw (one_shl 64 w (omega arith)) (mod-lt _ (pow_pos w)))
 
 pub loop-left-preserved : goal.loop-left-preserved
 loop-left-preserved c =

@@ -1,13 +1,7 @@
 -- `put_in_byte`: nothing is shifted out, since the result is a byte (`chunk-lt`).
 use native.Mathlib.Omega.{arith}
-use Rattle.bitstream.proofs.ByteLaws.{chunk-lt, joined_small, kept-is, chunk-is}
+use Rattle.bitstream.proofs.ByteLaws.{chunk-lt, chunk-is}
 use Rattle.bitstream.proofs.bit_writer.put_in_byte.Goals as goal
-
-pub overflow_add-result : goal.overflow_add-result
-overflow_add-result c =
-    let a = c.args in
-    rw (kept-is a.x a.k a.v a.n (omega arith) c.requires.0 c.requires.1)
-    (record { fits = omega (arith, joined_small a.x a.k a.v a.n (omega arith) c.requires.0 c.requires.1) })
 
 pub returns : goal.returns
 returns c =

@@ -1,55 +1,12 @@
 -- `se_code`: the magnitude by the sign, doubled.
-use native.Mathlib.Omega.{arith}
 use mathlib.Core.Path.{◌≡◌}
 use mathlib.Core.Bool.{true, false}
 use lib.IntN.{pos}
 use lib.Signed.{le_z}
 use mir.Syntax.{w32, w64}
 use mir.Val.{to_z, of_z}
-use mir.Facts.{to_z-of_z}
-use Rattle.bitstream.proofs.Signed.{wide, wide_is, neg-fits, neg_is, Down, Up, down, up}
+use Rattle.bitstream.proofs.Signed.{wide_is, neg_is, Down, Up, down, up}
 use Rattle.bitstream.proofs.bit_writer.se_code.Goals as goal
-
-pub overflow_cast-v : goal.overflow_cast-v
-overflow_cast-v c = rw (to_z-of_z c.ranges.value) (wide c.args.value c.ranges.value)
-
-pub overflow_sub-result : goal.overflow_sub-result
-overflow_sub-result c = rw (wide_is c.args.value c.ranges.value) (neg-fits c.args.value c.ranges.value)
-
-pub overflow_cast-result : goal.overflow_cast-result
-overflow_cast-result c =
-    let at_most : Down c.args.value = let z = c.args.value in
-    let h : le_z (to_z w64 (of_z w64 (to_z w32 (of_z w32 z)))) (pos 0) ≡ true = c.if-v-le0.true in
-    down z c.ranges.value (rw (wide_is z c.ranges.value) at h) in
-    rw (wide_is c.args.value c.ranges.value, neg_is c.args.value c.ranges.value) (at_most.sign, record { fits = omega (arith, at_most.small) })
-
-pub overflow_mul-result : goal.overflow_mul-result
-overflow_mul-result c =
-    let at_most : Down c.args.value = let z = c.args.value in
-    let h : le_z (to_z w64 (of_z w64 (to_z w32 (of_z w32 z)))) (pos 0) ≡ true = c.if-v-le0.true in
-    down z c.ranges.value (rw (wide_is z c.ranges.value) at h) in
-    rw (wide_is c.args.value c.ranges.value, neg_is c.args.value c.ranges.value) (record { fits = omega (arith, at_most.small) })
-
-pub overflow_cast-result-else-v-le0 : goal.overflow_cast-result-else-v-le0
-overflow_cast-result-else-v-le0 c =
-    let above : Up c.args.value = let z = c.args.value in
-    let h : le_z (to_z w64 (of_z w64 (to_z w32 (of_z w32 z)))) (pos 0) ≡ false = c.if-v-le0.false in
-    up z c.ranges.value (rw (wide_is z c.ranges.value) at h) in
-    rw (wide_is c.args.value c.ranges.value) (above.sign, record { fits = omega (arith, above.small) })
-
-pub overflow_mul-result-else-v-le0 : goal.overflow_mul-result-else-v-le0
-overflow_mul-result-else-v-le0 c =
-    let above : Up c.args.value = let z = c.args.value in
-    let h : le_z (to_z w64 (of_z w64 (to_z w32 (of_z w32 z)))) (pos 0) ≡ false = c.if-v-le0.false in
-    up z c.ranges.value (rw (wide_is z c.ranges.value) at h) in
-    rw (wide_is c.args.value c.ranges.value) (record { fits = omega (arith, above.small) })
-
-pub overflow_sub-result-else-v-le0 : goal.overflow_sub-result-else-v-le0
-overflow_sub-result-else-v-le0 c =
-    let above : Up c.args.value = let z = c.args.value in
-    let h : le_z (to_z w64 (of_z w64 (to_z w32 (of_z w32 z)))) (pos 0) ≡ false = c.if-v-le0.false in
-    up z c.ranges.value (rw (wide_is z c.ranges.value) at h) in
-    rw (wide_is c.args.value c.ranges.value) (omega (arith, above.some))
 
 pub returns-then-v-le0 : goal.returns-then-v-le0
 returns-then-v-le0 c =

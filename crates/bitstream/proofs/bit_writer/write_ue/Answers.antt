@@ -7,7 +7,7 @@ use lib.Count.{count_leading_zeros}
 use Rattle.bitstream.specs.Bits.{field_bits}
 use Rattle.bitstream.specs.Fields.{ue_zeros, ue_bits}
 use Rattle.bitstream.specs.Writing.{write_ue_at}
-use Rattle.bitstream.proofs.WriteLaws.{wrote, ue-top, ue-field}
+use Rattle.bitstream.proofs.WriteLaws.{wrote, ue-field}
 use Rattle.bitstream.proofs.bit_writer.write_ue.Goals as goal
 
 -- the field that the code writes
@@ -20,9 +20,6 @@ unfolding write_ue_at
 returns-then-value-ge4294967295 c =
     let h : 4294967295 ≤ c.args.value = omega arith in
     let r = wrote _ (rw (le-ltb _ _ h)) in record { answer = r.0; bytes = r.1 }
-
-pub overflow_sub-z : goal.overflow_sub-z
-overflow_sub-z c = omega (arith, (ue-top c.args.value (omega arith)).0)
 
 pub returns : goal.returns
 unfolding write_ue_at

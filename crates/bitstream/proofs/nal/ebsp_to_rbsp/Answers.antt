@@ -1,5 +1,4 @@
 -- The two tests are those of the definition, in its order; then `unescape_into` writes the bytes due.
-use borrow.Author.Tests.{leb-true}
 use mathlib.Core.Path.{sym, ◌∙◌}
 use native.Mathlib.Omega.{arith}
 use Rattle.bitstream.specs.Escapes.{unescape, ebsp_to_rbsp}
@@ -18,9 +17,6 @@ returns-then-not-unescaped_fits c =
     let a = c.args in
     let r = call-too-short a.src.now a.out.now (unescape a.src.now) (omega arith)
     (sym c.unescaped_fits.ensures ∙ c.if-not-unescaped_fits.true) in record { answer = r.0; bytes = r.1 }
-
-pub unescape_into-requires : goal.unescape_into-requires
-unescape_into-requires c = (omega arith, leb-true _ _ (sym c.unescaped_fits.ensures ∙ c.if-not-unescaped_fits.false))
 
 pub returns : goal.returns
 unfolding ebsp_to_rbsp

@@ -2,12 +2,9 @@
 use native.Mathlib.Omega.{arith}
 use Prim.Native.Nat.{◌≤◌, ◌<◌}
 use lib.ListN.{length}
-use Rattle.bitstream.proofs.Filling.{start, room, finish}
+use Rattle.bitstream.proofs.Filling.{room, finish}
 use Rattle.bitstream.proofs.EscapeTurns.{next, escape-room, escape-marked, escape-filled, escape-end-room, escape-end-filled}
 use Rattle.bitstream.proofs.nal.escape_into.Goals as goal
-
-pub loop-b-init : goal.loop-b-init
-loop-b-init c = (omega arith, omega arith, start _ _)
 
 pub put_if-o-requires : goal.put_if-o-requires
 put_if-o-requires c =

@@ -11,6 +11,3 @@ pub returns-then-src-room : goal.returns-then-src-room
 returns-then-src-room c =
     let a = c.args in
     sym (le-leb (length (escape a.src.now)) a.room (omega (arith, escape-most a.src.now, c.if-src-room.true)))
-
-pub returns : goal.returns
-returns c = rw c.escaped_len.ensures

@@ -5,9 +5,6 @@ use lib.ListN.{length}
 use Rattle.bitstream.proofs.EscapeTurns.{next, escape-counted, cond-most, escape-count-end}
 use Rattle.bitstream.proofs.nal.escaped_len.Goals as goal
 
-pub overflow_add-n : goal.overflow_add-n
-overflow_add-n c = omega (arith, c.count_if-n.ensures, cond-most c.needs_escape-put.result c.loop-b.n)
-
 pub loop-b-preserved : goal.loop-b-preserved
 loop-b-preserved c =
     let l = c.loop-b in

@@ -1,5 +1,4 @@
 -- The two tests are those of the definition, in its order; then `escape_into` writes the bytes due.
-use borrow.Author.Tests.{leb-true}
 use mathlib.Core.Path.{sym, ◌∙◌}
 use native.Mathlib.Omega.{arith}
 use Rattle.bitstream.specs.Escapes.{escape, rbsp_to_ebsp}
@@ -18,9 +17,6 @@ returns-then-not-escaped_fits c =
     let a = c.args in
     let r = call-too-short a.src.now a.out.now (escape a.src.now) (omega arith)
     (sym c.escaped_fits.ensures ∙ c.if-not-escaped_fits.true) in record { answer = r.0; bytes = r.1 }
-
-pub escape_into-requires : goal.escape_into-requires
-escape_into-requires c = (omega arith, leb-true _ _ (sym c.escaped_fits.ensures ∙ c.if-not-escaped_fits.false))
 
 pub returns : goal.returns
 unfolding rbsp_to_ebsp

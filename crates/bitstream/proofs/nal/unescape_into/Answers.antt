@@ -3,12 +3,9 @@ use mathlib.Core.Bool.{false}
 use native.Mathlib.Omega.{arith}
 use Prim.Native.Nat.{◌≤◌, ◌<◌}
 use lib.ListN.{length}
-use Rattle.bitstream.proofs.Filling.{start, finish}
+use Rattle.bitstream.proofs.Filling.{finish}
 use Rattle.bitstream.proofs.EscapeTurns.{unescape-end, next, unescape-room, unescape-filled}
 use Rattle.bitstream.proofs.nal.unescape_into.Goals as goal
-
-pub loop-b-init : goal.loop-b-init
-loop-b-init c = (omega arith, omega arith, start _ _)
 
 pub put_if-o-requires : goal.put_if-o-requires
 put_if-o-requires c =

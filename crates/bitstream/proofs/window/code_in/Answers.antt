@@ -1,12 +1,8 @@
 -- `code_in`: at most 8 zeros leave a code of at most 9 bits from its 1 bit on.
 use mathlib.Core.Path.{refl}
 use native.Mathlib.Omega.{arith}
-use lib.Count.{leading_le}
 use Rattle.bitstream.proofs.WindowLaws.{code-small, code-none, code-by-zeros}
 use Rattle.bitstream.proofs.window.code_in.Goals as goal
-
-pub overflow_cast-z : goal.overflow_cast-z
-overflow_cast-z c = omega (arith, leading_le 64 c.args.w)
 
 pub returns-then-z-gt8 : goal.returns-then-z-gt8
 returns-then-z-gt8 c = code-none c.args.w (omega arith)

@@ -9,7 +9,7 @@ use lib.ListN.{length}
 use Rattle.bitstream.specs.Outcome.{value}
 use Rattle.aps.specs.Codec.{ue}
 use Rattle.aps.proofs.CoefficientSteps.{sign-sent, coefficient-held}
-use Rattle.aps.proofs.ReaderLaws.{reads-exit, reads-from}
+use Rattle.aps.proofs.ReaderLaws.{reads-from}
 use Rattle.aps.proofs.TableSteps.{table-bits, table-found, table-ue}
 use Rattle.aps.proofs.reader.Reader.coefficient.Goals as goal
 use Rattle.aps.proofs.reader.Reader.coefficient.Goals.{In-Some}
@@ -47,9 +47,3 @@ returns-then-not-lacks c =
     let e : ue.read w.bytes.now w.at ≡ value some.value (w.at + some.bits) = table-ue w.known k (omega (arith, l)) (omega (arith, i)) in
     let r = coefficient-held w.known e (omega arith) (omega (arith, n, l)) (sign-sent w.known.fits f) c.if-abs-le128.true i in
     reads-from at (record { field = rw c.pass.ensures.1 r; bytes = c.pass.ensures.0 })
-
-pub returns-in_err-field : goal.returns-in_err-field
-returns-in_err-field c = reads-exit _ _ _ c.from_residual.ensures.1 (reads-from c.fill.ensures.0 c.in_err-field.ensures)
-
-pub returns : goal.returns
-returns c = reads-from c.fill.ensures.0 c.in_ok-field.ensures

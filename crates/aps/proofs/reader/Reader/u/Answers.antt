@@ -1,8 +1,7 @@
 -- `u`: the field stands in the word, and is dropped from it.
-use mathlib.Core.Path.{refl, sym, ◌∙◌}
+use mathlib.Core.Path.{refl}
 use native.Mathlib.Nat.{lt_of_lt_of_le}
 use native.Mathlib.Omega.{arith}
-use borrow.Author.Tests.{ltb-false}
 use lib.Pow.{pow_mono}
 use Rattle.aps.proofs.ReaderLaws.{reads-from, reads-past, reads-inside}
 use Rattle.aps.proofs.WindowSteps.{held-lt, held-u}
@@ -19,11 +18,6 @@ overflow_cast-value c =
     let n = c.args.n in
     let (at, l) = c.fill.ensures in
     record { fits = lt_of_lt_of_le (held-lt c.fill.new.self.known n (omega (arith, l))) (pow_mono {j = 32} (omega arith)) }
-
-pub pass-requires : goal.pass-requires
-pass-requires c =
-    let (at, l) = c.fill.ensures in
-    (c.requires.1, l, omega arith, ltb-false _ _ (sym c.lacks.ensures ∙ c.if-lacks.false))
 
 pub returns : goal.returns
 returns c =

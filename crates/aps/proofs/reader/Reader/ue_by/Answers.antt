@@ -30,6 +30,3 @@ pub returns-then-not-lacks : goal.returns-then-not-lacks
 returns-then-not-lacks g c =
     let e = table-ue c.fill.new.self.known (code g (goal.at.returns-then-not-lacks g c).In-Some) (omega (arith, c.fill.ensures.1)) (ltb-false _ _ (sym c.lacks.ensures ∙ c.if-not-lacks.true)) in
     reads-from c.fill.ensures.0 (record { field = rw c.pass.ensures.1 (sym e); bytes = c.pass.ensures.0 })
-
-pub returns : goal.returns
-returns g c = reads-from c.fill.ensures.0 c.ue.ensures

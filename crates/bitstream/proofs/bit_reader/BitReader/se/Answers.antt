@@ -3,9 +3,7 @@ use Rattle.std.proofs.Common.{rules, ◌≡◌, Err}
 use Rattle.std.proofs.lemmas.Int.{to_z-of_z}
 use mir.Syntax.{w32}
 use mir.Val.{to_z, of_z}
-use mathlib.Core.Path.{ap, ◌∙◌}
 use Rattle.bitstream.specs.Reading.{se_at, se_lacking}
-use Rattle.bitstream.specs.Windows.{code_in}
 use Rattle.bitstream.proofs.CallLaws.{started-refused, lacking-refused, se-value, se-refused, ue-below}
 use Rattle.bitstream.proofs.bit_reader.BitReader.se.Goals as goal
 
@@ -15,11 +13,6 @@ returns-in_err-place c =
     let e : c.from_residual.result ≡ Err c.in_err-place.field-0.0 = search rules in
     let r = lacking-refused _ (started-refused _ _ _ c.in_err-place.ensures.err) in
     rw e (record { field = r.0; lacking = r.1 })
-
-pub ue_of-requires : goal.ue_of-requires
-ue_of-requires c =
-    let k = c.in_ok-place.ensures.ok in
-    rw (k.0, k.1) (c.code_in.ensures ∙ ap code_in c.window_alone.ensures)
 
 pub returns-in_err-ue : goal.returns-in_err-ue
 returns-in_err-ue c =

@@ -6,7 +6,6 @@ use mathlib.Core.Path.{◌≡◌, ap, ◌∙◌}
 use mathlib.Core.List.{List}
 use native.Mathlib.Omega.{arith}
 use lib.ListN.{length}
-use lib.Pow.{pow_pos}
 use Rattle.bitstream.specs.Bits.{bit_at}
 use Rattle.bitstream.specs.Fields.{zeros_at, suffix_at, ue_value}
 use Rattle.bitstream.specs.Reading.{ue_at, ue_lacking}
@@ -78,34 +77,12 @@ loop-q-preserved c =
     let l = c.loop-q in
     omega (arith, one_more c.args.bytes.now c.args.self.bit_pos l.q l.zeros (omega arith) (omega arith) (omega (arith, c.bit-b.ensures)) l.invariant.2)
 
-pub bits-suffix-requires : goal.bits-suffix-requires
-bits-suffix-requires c = omega (arith, (counted c).few)
-
-pub overflow_add-after : goal.overflow_add-after
-overflow_add-after c =
-    let k = counted (goal.at.overflow_add-after c).Joined-end-q in
-    omega (arith, k.few, k.near, c.in_ok-place.ensures.inside.1)
-
-pub overflow_shl-code_num : goal.overflow_shl-code_num
-overflow_shl-code_num c = omega (arith, (counted (goal.at.overflow_shl-code_num c).Joined-end-q).few)
-
-pub overflow_sub-code_num : goal.overflow_sub-code_num
-overflow_sub-code_num c =
-    let k = counted (goal.at.overflow_sub-code_num c).Joined-end-q in
-    rw (one_shl 32 c.if-end-q.leading_zero_bits k.few) (pow_pos c.if-end-q.leading_zero_bits)
-
 pub overflow_add-code_num : goal.overflow_add-code_num
 unfolding ue_value
 overflow_add-code_num c =
     let k = counted (goal.at.overflow_add-code_num c).Joined-end-q in
     let z = c.if-end-q.leading_zero_bits in
     rw (one_shl 32 z k.few) (omega (arith, ue-lt z c.bits-suffix.result k.few (rw c.bits-suffix.ensures (field_lt _ _ z))))
-
-pub overflow_mul-leading_zero_bits : goal.overflow_mul-leading_zero_bits
-overflow_mul-leading_zero_bits c = omega (arith, (counted (goal.at.overflow_mul-leading_zero_bits c).Joined-end-q).few)
-
-pub overflow_add-leading_zero_bits : goal.overflow_add-leading_zero_bits
-overflow_add-leading_zero_bits c = omega (arith, (counted (goal.at.overflow_add-leading_zero_bits c).Joined-end-q).few)
 
 pub returns : goal.returns
 returns c =

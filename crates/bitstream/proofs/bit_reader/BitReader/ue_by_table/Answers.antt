@@ -1,8 +1,6 @@
 -- `ue_by_table`: a code that the table or the zeros find.
 use Rattle.std.proofs.Common.{rules, ◌≡◌, Err}
-use mathlib.Core.Path.{ap, ◌∙◌}
 use Rattle.bitstream.specs.Reading.{ue_at, ue_lacking}
-use Rattle.bitstream.specs.Windows.{code_in}
 use Rattle.bitstream.proofs.CallLaws.{started-refused, lacking-refused}
 use Rattle.bitstream.proofs.bit_reader.BitReader.ue_by_table.Goals as goal
 
@@ -12,8 +10,3 @@ returns-in_err-place c =
     let e : c.from_residual.result ≡ Err c.in_err-place.field-0.0 = search rules in
     let r = lacking-refused _ (started-refused _ _ _ c.in_err-place.ensures.err) in
     rw e (record { field = r.0; lacking = r.1 })
-
-pub ue_of-requires : goal.ue_of-requires
-ue_of-requires c =
-    let k = c.in_ok-place.ensures.ok in
-    rw (k.0, k.1) (c.code.ensures ∙ ap code_in c.window_alone.ensures)

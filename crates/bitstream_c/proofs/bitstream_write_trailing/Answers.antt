@@ -1,8 +1,0 @@
--- `bitstream_write_trailing`: what the library answers, handed on.
-use Rattle.bitstream_c.proofs.CodeLaws.{code-on, placed_on}
-use Rattle.bitstream_c.proofs.bitstream_write_trailing.Goals as goal
-
-pub returns : goal.returns
-returns c =
-    let e = c.write_rbsp_trailing_bits.ensures in
-    record { code = code-on (c.written.ensures.code _) e.answer; answer = placed_on _ (c.written.ensures.answer _) e.answer; bytes = e.bytes }
