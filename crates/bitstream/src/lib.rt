@@ -8,8 +8,9 @@ mod place;
 pub mod short_codes;
 pub mod window;
 
-ghost use Rattle.std.specs.Prelude.{◌≡◌};
+ghost use Rattle.std.specs.Prelude.{◌≡◌, ◌≤◌, ◌<◌, length, IfOk, OnOk, IfErr};
 ghost use Rattle.bitstream.specs.Outcome.{number};
+ghost use Rattle.bitstream.specs.declared.Refusal.TheVariants.{InputTooLong};
 
 // The longest input that is taken, in bytes.
 pub const LONGEST_INPUT: usize = 65536;
@@ -41,5 +42,26 @@ impl From<Refusal> for u32 {
             Refusal::OutputTooShort => 5,
             Refusal::EmptyPlace => 6,
         }
+    }
+}
+
+// An input that is not too long.
+#[derive(Clone, Copy)]
+pub struct Input<'a> {
+    pub bytes: &'a [u8],
+    ghost short: { length bytes.now ≤ 65536 },
+}
+
+impl<'a> Input<'a> {
+    // 4: it is longer.
+    pub fn new(bytes: &'a [u8]) -> Result<Self, Refusal>
+        ensures ok { IfOk result (λ input. input.bytes.now ≡ bytes.now) }
+        ensures short { OnOk result (length bytes.now ≤ 65536) }
+        ensures err { IfErr result (λ why. (why ≡ InputTooLong) × (65536 < length bytes.now)) }
+    {
+        if LONGEST_INPUT < bytes.len() {
+            return Err(Refusal::InputTooLong);
+        }
+        Ok(Input { bytes })
     }
 }

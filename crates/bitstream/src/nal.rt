@@ -3,7 +3,7 @@ ghost use Rattle.std.specs.Prelude.{◌≡◌, ◌+◌, ◌≤◌, ◌<◌, ◌&
 ghost use Rattle.bitstream.specs.Outcome.{left, outcome_written};
 ghost use Rattle.bitstream.specs.Escapes.{zero_run, kept, escape, unescape, ebsp_to_rbsp, rbsp_to_ebsp};
 
-use crate::{LONGEST_INPUT, Refusal};
+use crate::{Input, Refusal};
 
 // The zero bytes at the end: of z zero bytes, unless an 03 was put after them, and then b.
 fn zero_run(put: bool, z: usize, b: u8) -> usize
@@ -52,13 +52,12 @@ fn put_if(out: &mut [u8], o: usize, yes: bool, b: u8) -> usize
 }
 
 // The length with escapes removed. An iterator of these bytes, for this and the write, would carry the same variables and be longer.
-fn unescaped_len(src: &[u8]) -> usize
-    requires { length src.now ≤ 65536 }
-    ensures { result ≡ length (unescape src.now) }
+fn unescaped_len(src: Input<'_>) -> usize
+    ensures { result ≡ length (unescape src.entry.bytes.now) }
 {
     let mut z = 0;
     let mut n = 0;
-    for &b in src {
+    for &b in src.bytes {
         n = count_if(n, stays(z, b));
         z = zero_run(false, z, b);
     }
@@ -66,14 +65,14 @@ fn unescaped_len(src: &[u8]) -> usize
 }
 
 // Writes src with escapes removed into out, which has room for it.
-fn unescape_into(src: &[u8], out: &mut [u8]) -> usize
-    requires { (length src.now ≤ 65536) × (length (unescape src.now) ≤ length out.old) }
-    ensures { (result ≡ length (unescape src.now))
-        × (out.new ≡ unescape src.now ++ drop (length (unescape src.now)) out.old) }
+fn unescape_into(src: Input<'_>, out: &mut [u8]) -> usize
+    requires { length (unescape src.bytes.now) ≤ length out.old }
+    ensures { (result ≡ length (unescape src.entry.bytes.now))
+        × (out.new ≡ unescape src.entry.bytes.now ++ drop (length (unescape src.entry.bytes.now)) out.old) }
 {
     let mut z = 0;
     let mut o = 0;
-    for &b in src {
+    for &b in src.bytes {
         o = put_if(out, o, stays(z, b), b);
         z = zero_run(false, z, b);
     }
@@ -81,13 +80,12 @@ fn unescape_into(src: &[u8], out: &mut [u8]) -> usize
 }
 
 // The length with escapes put in, beside the write as above.
-fn escaped_len(src: &[u8]) -> usize
-    requires { length src.now ≤ 65536 }
-    ensures { result ≡ length (escape src.now) }
+fn escaped_len(src: Input<'_>) -> usize
+    ensures { result ≡ length (escape src.entry.bytes.now) }
 {
     let mut z = 0;
     let mut n = 0;
-    for &b in src {
+    for &b in src.bytes {
         let put = needs_escape(z, b);
         n = count_if(n, put) + 1;
         z = zero_run(put, z, b);
@@ -96,14 +94,14 @@ fn escaped_len(src: &[u8]) -> usize
 }
 
 // Writes src with escapes put in into out, which has room for it.
-fn escape_into(src: &[u8], out: &mut [u8]) -> usize
-    requires { (length src.now ≤ 65536) × (length (escape src.now) ≤ length out.old) }
-    ensures { (result ≡ length (escape src.now))
-        × (out.new ≡ escape src.now ++ drop (length (escape src.now)) out.old) }
+fn escape_into(src: Input<'_>, out: &mut [u8]) -> usize
+    requires { length (escape src.bytes.now) ≤ length out.old }
+    ensures { (result ≡ length (escape src.entry.bytes.now))
+        × (out.new ≡ escape src.entry.bytes.now ++ drop (length (escape src.entry.bytes.now)) out.old) }
 {
     let mut z = 0;
     let mut o = 0;
-    for &b in src {
+    for &b in src.bytes {
         let put = needs_escape(z, b);
         o = put_if(out, o, put, 3);
         o = put_if(out, o, true, b);
@@ -113,22 +111,20 @@ fn escape_into(src: &[u8], out: &mut [u8]) -> usize
 }
 
 // Whether src with escapes removed fits into room bytes: it is never longer than src.
-fn unescaped_fits(src: &[u8], room: usize) -> bool
-    requires { length src.now ≤ 65536 }
-    ensures { result ≡ leb (length (unescape src.now)) room }
+fn unescaped_fits(src: Input<'_>, room: usize) -> bool
+    ensures { result ≡ leb (length (unescape src.entry.bytes.now)) room }
 {
-    if src.len() <= room {
+    if src.bytes.len() <= room {
         return true;
     }
     unescaped_len(src) <= room
 }
 
 // Whether src with escapes put in fits into room bytes: it is never longer than 3/2 of src.
-fn escaped_fits(src: &[u8], room: usize) -> bool
-    requires { length src.now ≤ 65536 }
-    ensures { result ≡ leb (length (escape src.now)) room }
+fn escaped_fits(src: Input<'_>, room: usize) -> bool
+    ensures { result ≡ leb (length (escape src.entry.bytes.now)) room }
 {
-    if src.len() * 3 / 2 <= room {
+    if src.bytes.len() * 3 / 2 <= room {
         return true;
     }
     escaped_len(src) <= room
@@ -139,13 +135,11 @@ pub fn ebsp_to_rbsp(src: &[u8], out: &mut [u8]) -> Result<usize, Refusal>
     ensures answer { outcome_written result out.new ≡ ebsp_to_rbsp src.now out.old }
     ensures bytes { out.new ≡ left out.old (ebsp_to_rbsp src.now out.old) }
 {
-    if LONGEST_INPUT < src.len() {
-        return Err(Refusal::InputTooLong);
-    }
-    if !unescaped_fits(src, out.len()) {
+    let input = Input::new(src)?;
+    if !unescaped_fits(input, out.len()) {
         return Err(Refusal::OutputTooShort);
     }
-    Ok(unescape_into(src, out))
+    Ok(unescape_into(input, out))
 }
 
 // The bytes of src with escapes put in, clause 7.4.2.1.
@@ -153,11 +147,9 @@ pub fn rbsp_to_ebsp(src: &[u8], out: &mut [u8]) -> Result<usize, Refusal>
     ensures answer { outcome_written result out.new ≡ rbsp_to_ebsp src.now out.old }
     ensures bytes { out.new ≡ left out.old (rbsp_to_ebsp src.now out.old) }
 {
-    if LONGEST_INPUT < src.len() {
-        return Err(Refusal::InputTooLong);
-    }
-    if !escaped_fits(src, out.len()) {
+    let input = Input::new(src)?;
+    if !escaped_fits(input, out.len()) {
         return Err(Refusal::OutputTooShort);
     }
-    Ok(escape_into(src, out))
+    Ok(escape_into(input, out))
 }

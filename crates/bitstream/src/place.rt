@@ -6,7 +6,7 @@ ghost use Rattle.bitstream.specs.Fields.{lacks, zeros_at, suffix_at};
 ghost use Rattle.bitstream.specs.Reading.{started};
 
 use crate::window::window;
-use crate::{LAST_START, LONGEST_INPUT, Refusal};
+use crate::{Input, LAST_START, Refusal};
 
 // Bit `bit` of an input; neither is over its limit.
 #[derive(Clone, Copy)]
@@ -32,13 +32,14 @@ impl<'a> Place<'a> {
         ensures inside { OnOk result ((length bytes.now ≤ 65536) × (bit ≤ 1048576)) }
         ensures err { IfErr result (λ why. started bytes.now bit ≡ refused (number why)) }
     {
-        if LONGEST_INPUT < bytes.len() {
-            return Err(Refusal::InputTooLong);
-        }
+        let input = Input::new(bytes)?;
         if LAST_START < bit {
             return Err(Refusal::InvalidData);
         }
-        Ok(Place { bytes, bit })
+        Ok(Place {
+            bytes: input.bytes,
+            bit,
+        })
     }
 
     // Whether n bits from here on pass the input's last bit.

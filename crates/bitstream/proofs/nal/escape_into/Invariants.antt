@@ -7,4 +7,4 @@ use Rattle.bitstream.proofs.nal.escape_into.Given as goal
 
 abbrev pub invariant-loop-b : goal.invariant-loop-b
 invariant-loop-b l =
-    (l.z ≤ l.b-index) × (length (esc.escape l.src) ≤ length l.initial.out) × Filling l.initial.out l.out l.o (esc.escape_from l.z (drop l.b-index l.src)) (esc.escape l.src)
+    (l.z ≤ l.b-index) × (length (esc.escape l.src.bytes.now) ≤ length l.initial.out) × Filling l.initial.out l.out l.o (esc.escape_from l.z (drop l.b-index l.src.bytes.now)) (esc.escape l.src.bytes.now)

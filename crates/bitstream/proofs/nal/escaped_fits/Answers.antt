@@ -10,4 +10,4 @@ use Rattle.bitstream.proofs.nal.escaped_fits.Goals as goal
 pub returns-then-src-room : goal.returns-then-src-room
 returns-then-src-room c =
     let a = c.args in
-    sym (le-leb (length (escape a.src.now)) a.room (omega (arith, escape-most a.src.now, c.if-src-room.true)))
+    sym (le-leb (length (escape a.src.bytes.now)) a.room (omega (arith, escape-most a.src.bytes.now, c.if-src-room.true)))

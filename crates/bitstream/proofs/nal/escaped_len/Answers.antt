@@ -8,8 +8,8 @@ use Rattle.bitstream.proofs.nal.escaped_len.Goals as goal
 pub loop-b-preserved : goal.loop-b-preserved
 loop-b-preserved c =
     let l = c.loop-b in
-    let h : l.b-index < length c.args.src.now = omega arith in
-    let m = next c.args.src.now _ _ h c.needs_escape-put.result _ l.invariant.0 c.zero_run-z.ensures in (
+    let h : l.b-index < length c.args.src.bytes.now = omega arith in
+    let m = next c.args.src.bytes.now _ _ h c.needs_escape-put.result _ l.invariant.0 c.zero_run-z.ensures in (
       m.1,
       omega (arith, c.count_if-n.ensures, cond-most c.needs_escape-put.result l.n),
       escape-counted _ _ _ h _ _ _ _ c.needs_escape-put.ensures c.zero_run-z.ensures c.count_if-n.ensures l.invariant.2,
@@ -17,5 +17,5 @@ loop-b-preserved c =
 
 pub returns : goal.returns
 returns c =
-    let h : length c.args.src.now ≤ c.loop-b.b-index = omega arith in
+    let h : length c.args.src.bytes.now ≤ c.loop-b.b-index = omega arith in
     escape-count-end _ _ _ h _ _ c.count_if.ensures c.loop-b.invariant.2

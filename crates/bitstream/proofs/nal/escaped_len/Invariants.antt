@@ -7,4 +7,4 @@ use Rattle.bitstream.proofs.nal.escaped_len.Given as goal
 
 abbrev pub invariant-loop-b : goal.invariant-loop-b
 invariant-loop-b l =
-    (l.z ≤ l.b-index) × (l.n ≤ l.b-index + l.b-index) × (l.n + length (esc.escape_from l.z (drop l.b-index l.src)) ≡ length (esc.escape l.src))
+    (l.z ≤ l.b-index) × (l.n ≤ l.b-index + l.b-index) × (l.n + length (esc.escape_from l.z (drop l.b-index l.src.bytes.now)) ≡ length (esc.escape l.src.bytes.now))

@@ -7,4 +7,4 @@ use Rattle.bitstream.proofs.nal.unescaped_len.Given as goal
 
 abbrev pub invariant-loop-b : goal.invariant-loop-b
 invariant-loop-b l =
-    (l.z ≤ l.b-index) × (l.n ≤ l.b-index) × (l.n + length (esc.unescape_from l.z (drop l.b-index l.src)) ≡ length (esc.unescape l.src))
+    (l.z ≤ l.b-index) × (l.n ≤ l.b-index) × (l.n + length (esc.unescape_from l.z (drop l.b-index l.src.bytes.now)) ≡ length (esc.unescape l.src.bytes.now))
