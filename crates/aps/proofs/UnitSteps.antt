@@ -10,13 +10,14 @@ use borrow.Author.Tests.{ltb-false, le-ltb}
 use lib.Dec.{ltb}
 use lib.ListN.{length, take, drop, get_or, length-drop, length-append}
 use lib.Seq.{take-append_seam, take_all}
-use Rattle.bitstream.specs.Outcome.{value, refused, outcome_written}
+use Rattle.bitstream.specs.Outcome.{Outcome, value, refused, outcome_written, ◌then◌}
 use Rattle.bitstream.specs.Escapes.{put_bytes, ebsp_to_rbsp}
 use Rattle.bitstream.proofs.CodeLaws.{value-refused}
 use Rattle.bitstream.proofs.EscapeLaws.{unescape-most}
 use Rattle.aps.specs.Rbsp.{read_rbsp, parse_aps_rbsp}
 use Rattle.aps.specs.Inner.{Unwrapped}
-use Rattle.aps.specs.Unit.{is_aps, rbsp_of, admitted, parse_aps, work_after}
+use Rattle.aps.specs.Unit.{is_aps, rbsp_of, header_of, parse_nal_header, admitted, parse_aps, work_after}
+use Rattle.aps.specs.declared.nal_header.VvcNalHeader.{VvcNalHeader}
 use Rattle.aps.proofs.RbspSteps.{in-limits}
 
 -- the bytes after the header
@@ -47,6 +48,29 @@ rbsp-read u w v n h e =
     let t : take n v ≡ rbsp_of u = rw (sym b, sym a) (take-append_seam (rbsp_of u) (drop (length (rbsp_of u)) w)) in
     let m : length (rbsp_of u) ≤ 65536 = omega (arith, unescape-most (drop 2 u), length-drop 2 u) in
     sym (ap parse_aps_rbsp t ∙ in-limits (rbsp_of u) m)
+
+-- a unit that has a header: its lengths, and what the header is
+pub header-given : (u : List ℕ) (h : VvcNalHeader) → value h 16 ≡ parse_nal_header u → (2 ≤ length u) × (length u ≤ 65536) × (h ≡ header_of u)
+unfolding parse_nal_header
+header-given u h = go (ltb 65536 (length u)) (ltb (length u) 2) refl refl
+  where
+    go : (a b : Bool) → ltb 65536 (length u) ≡ a → ltb (length u) 2 ≡ b
+        → value h 16 ≡ cond a (refused 4) (cond b (refused 1) (value (header_of u) 16))
+        → (2 ≤ length u) × (length u ≤ 65536) × (h ≡ header_of u)
+    go true b ea eb e = absurd (value-refused e)
+    go false true ea eb e = absurd (value-refused e)
+    go false false ea eb e = (ltb-false _ _ eb, ltb-false _ _ ea, cc)
+
+-- one without a header is not admitted
+pub not-admitted : (u : List ℕ) (room : ℕ) {n : ℕ} → refused n ≡ parse_nal_header u → refused n ≡ admitted u room
+unfolding parse_nal_header admitted
+not-admitted u room {n} = go (ltb 65536 (length u)) (ltb (length u) 2)
+  where
+    go : (a b : Bool) → refused n ≡ cond a (refused 4) (cond b (refused 1) (value (header_of u) 16))
+        → refused n ≡ cond a (refused 4) (cond b (refused 1) (cond (is_aps (get_or u 1 0 / 8)) (cond (ltb room (length u - 2)) (refused 5) (value (tt {0}) 16)) (refused 2)))
+    go true b e = ap (λ (o : Outcome VvcNalHeader). o then λ h q. value (tt {0}) q) e
+    go false true e = ap (λ (o : Outcome VvcNalHeader). o then λ h q. value (tt {0}) q) e
+    go false false e = absurd (value-refused (sym e))
 
 -- a unit that passes its header: its lengths
 pub admitted-lengths : (u : List ℕ) (room : ℕ) → admitted u room ≡ value tt 16 → (2 ≤ length u) × (length u ≤ 65536) × (length u - 2 ≤ room)

@@ -11,7 +11,7 @@ use crate::lmcs::VvcLmcsData;
 use crate::payload::{Coded, pass_payload};
 use crate::reader::Reader;
 use crate::scaling_list::VvcScalingListData;
-use bitstream::{LONGEST_INPUT, Refusal};
+use bitstream::{Input, Refusal};
 
 // aps_params_type.
 #[derive(Clone, Copy, Debug, PartialEq, Eq)]
@@ -148,10 +148,8 @@ impl Default for VvcAps {
 pub(crate) fn open_rbsp(bytes: &[u8]) -> Result<(Reader<'_>, ApsHead), Refusal>
     ensures { Opens bytes.now result }
 {
-    if LONGEST_INPUT < bytes.len() {
-        return Err(Refusal::InputTooLong);
-    }
-    let mut reader = Reader::new(bytes, 0);
+    let input = Input::new(bytes)?;
+    let mut reader = Reader::new(input);
     let number = reader.u(3, 8)?;
     let id = reader.u(5, 8)?;
     let chroma = reader.flag()?;

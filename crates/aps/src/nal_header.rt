@@ -2,7 +2,7 @@
 ghost use Rattle.std.specs.Prelude.{◌≡◌};
 ghost use Rattle.aps.specs.Unit.{outcome_h, parse_nal_header};
 
-use bitstream::{LONGEST_INPUT, Refusal};
+use bitstream::{Input, Refusal};
 
 // nal_unit_type of a set before its pictures, and of one after them.
 pub const NAL_TYPE_PREFIX_APS: u8 = 17;
@@ -22,14 +22,12 @@ pub struct VvcNalHeader {
 pub fn parse_nal_header(unit: &[u8]) -> Result<VvcNalHeader, Refusal>
     ensures { outcome_h result ≡ parse_nal_header unit.now }
 {
-    if LONGEST_INPUT < unit.len() {
-        return Err(Refusal::InputTooLong);
-    }
-    if unit.len() < 2 {
+    let input = Input::new(unit)?;
+    if input.bytes.len() < 2 {
         return Err(Refusal::UnexpectedEnd);
     }
-    let first = unit[0];
-    let second = unit[1];
+    let first = input.bytes[0];
+    let second = input.bytes[1];
     Ok(VvcNalHeader {
         forbidden_zero_bit: first / 128,
         nuh_reserved_zero_bit: first / 64 % 2,

@@ -3,10 +3,10 @@ ghost use Rattle.std.specs.Prelude.{◌≡◌, false, cond, ◌+◌, ◌*◌, �
 ghost use Rattle.bitstream.specs.Fields.{se_value};
 ghost use Rattle.bitstream.specs.Windows.{IsWindow, code_in, found};
 
-use bitstream::Refusal;
 use bitstream::bit_reader::BitReader;
 use bitstream::short_codes::CodeTable;
 use bitstream::window::{Code, code_in, window};
+use bitstream::{Input, Refusal};
 
 // How the short code at the start of a word is found.
 pub(crate) trait Codes {
@@ -52,14 +52,13 @@ impl<'a> Reader<'a> {
     ghost use Rattle.aps.specs.AlfSyntax.{coefficient};
     ghost use Rattle.aps.specs.Reads.{given, Reads, ReadsOn, Stands};
 
-    // From bit `at` on.
-    pub(crate) fn new(bytes: &'a [u8], at: usize) -> Self
-        requires { (length bytes.now ≤ 65536) × (at ≤ length bytes.now * 8) }
-        ensures { (result.bytes.now ≡ bytes.now) × (result.at ≡ at) }
+    // From the first bit on.
+    pub(crate) fn new(input: Input<'a>) -> Self
+        ensures { (result.bytes.now ≡ input.entry.bytes.now) × (result.at ≡ 0) }
     {
         Reader {
-            bytes,
-            at,
+            bytes: input.bytes,
+            at: 0,
             bits: 0,
             left: 0,
         }

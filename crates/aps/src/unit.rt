@@ -6,9 +6,9 @@ ghost use Rattle.aps.specs.Unit.{is_aps, admitted, parse_aps, work_after};
 ghost use Rattle.aps.specs.Reading.{outcome_reading, head_of};
 
 use crate::aps::{ApsHead, Reading, VvcAps, parse_aps_head, parse_aps_rbsp};
-use crate::nal_header::{NAL_TYPE_PREFIX_APS, NAL_TYPE_SUFFIX_APS};
+use crate::nal_header::{NAL_TYPE_PREFIX_APS, NAL_TYPE_SUFFIX_APS, parse_nal_header};
+use bitstream::Refusal;
 use bitstream::nal::ebsp_to_rbsp;
-use bitstream::{LONGEST_INPUT, Refusal};
 
 // A prefix or a suffix APS.
 pub fn is_aps(unit_type: u8) -> bool
@@ -21,13 +21,8 @@ pub fn is_aps(unit_type: u8) -> bool
 fn admit(unit: &[u8], room: usize) -> Result<(), Refusal>
     ensures { outcome_admission result ≡ admitted unit.now room }
 {
-    if LONGEST_INPUT < unit.len() {
-        return Err(Refusal::InputTooLong);
-    }
-    if unit.len() < 2 {
-        return Err(Refusal::UnexpectedEnd);
-    }
-    if !is_aps(unit[1] / 8) {
+    let header = parse_nal_header(unit)?;
+    if !is_aps(header.nal_unit_type) {
         return Err(Refusal::InvalidData);
     }
     if room < unit.len() - 2 {

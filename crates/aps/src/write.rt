@@ -17,7 +17,7 @@ use crate::scaling_list::VvcScalingListData;
 use crate::unit::is_aps;
 use crate::writer::Writer;
 use bitstream::nal::rbsp_to_ebsp;
-use bitstream::{LONGEST_INPUT, Refusal};
+use bitstream::{Input, Refusal};
 
 // A set up to its extension flag, which is 0: what stands before the payload, the payload and the flag.
 fn put_set<P: Coded>(writer: &mut Writer, id: u8, chroma: bool, d: &P) -> Result<(), Refusal>
@@ -87,13 +87,11 @@ pub fn write_nal(rbsp: &[u8], unit_type: u8, out: &mut [u8]) -> Result<usize, Re
     if !is_aps(unit_type) {
         return Err(Refusal::InvalidData);
     }
-    if LONGEST_INPUT < rbsp.len() {
-        return Err(Refusal::InputTooLong);
-    }
+    let input = Input::new(rbsp)?;
     if out.len() < 2 {
         return Err(Refusal::OutputTooShort);
     }
-    let n = rbsp_to_ebsp(rbsp, &mut out[2..])?;
+    let n = rbsp_to_ebsp(input.bytes, &mut out[2..])?;
     out[0] = 0;
     out[1] = unit_type * 8 + 1;
     Ok(n + 2)

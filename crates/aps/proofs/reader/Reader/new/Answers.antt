@@ -4,4 +4,4 @@ use Rattle.aps.proofs.ReaderLaws.{no-window}
 use Rattle.aps.proofs.reader.Reader.new.Goals as goal
 
 pub invariant_of-result : goal.invariant_of-result
-invariant_of-result c = record { short = c.requires.0; inside = c.requires.1; known = no-window (omega arith) }
+invariant_of-result c = record { short = c.args.input.short; inside = omega arith; known = no-window (omega arith) }
