@@ -15,7 +15,7 @@ use Rattle.aps_table.specs.Split.{Units, split, prepend, ended, gap}
 use Rattle.aps_table.specs.Inner.{UnitAt, Follows, between, splits, units_of}
 use Rattle.aps_table.specs.Taking.{Verdict, accept, pass, refuse, verdict, take_unit, take_units, work_units, count, tally, no_units}
 use Rattle.aps_table.specs.Calls.{Answer, counted, refusal, single, fitting, units_taken, after_units, counting, work_after_stream}
-use Rattle.aps_table.specs.declared.split.Unit.{Unit as Bounds}
+use Rattle.aps_table.specs.declared.split.Unit.{Unit as Next}
 use Rattle.aps_table.specs.declared.table.Counts.{Counts}
 
 -- ---- what a stream comes to
@@ -120,7 +120,7 @@ module _ {s w₀ t₀ w t : List ℕ} {c : Counts} {i : ℕ} (S : Streaming s w�
       }
 
   -- no unit follows, and a split that holds is not refused later on: all is taken
-  pub finish : (r : Result (Option Bounds) Refusal) → Follows s i r → ((u : Bounds) → r ≡ Ok (Some u) → ⊥)
+  pub finish : (r : Result (Option Next) Refusal) → Follows s i r → ((u : Next) → r ≡ Ok (Some u) → ⊥)
       → (c ≡ tally (length w₀) (units_of (split s)) no_units) × ((t ≡ take_units (length w₀) (units_of (split s)) t₀) × (w ≡ work_units (units_of (split s)) w₀))
   unfolding take_units work_units tally
   finish (Ok (Some u)) f n = absurd (n u refl)

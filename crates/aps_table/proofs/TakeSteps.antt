@@ -1,21 +1,22 @@
 -- What a unit comes to on each way through it: passed over, refused, accepted.
-use borrow.Author.Tests.{leb-true, le-ltb, not-true}
-use mathlib.Core.Path.{◌≡◌, sym, ap, ◌∙◌}
-use mathlib.Core.Bool.{true, false, not, ◌&&◌}
+use borrow.Author.Tests.{leb-true, le-leb, lt-leb, le-ltb, ltb-true, ltb-false, not-true}
+use mathlib.Core.Path.{◌≡◌, refl, sym, ap, ◌∙◌}
+use mathlib.Core.Bool.{Bool, true, false, cond, not, ◌&&◌}
 use mathlib.Core.List.{List, ◌++◌}
 use Prim.Native.Nat.{ℕ, ◌+◌, ◌/◌, ◌≤◌}
 use native.Mathlib.Omega.{arith}
-use lib.Dec.{leb}
+use lib.Dec.{leb, ltb}
 use lib.ListN.{length, get_or, take, drop, length-append}
 use lib.Seq.{sets, take-append-le}
 use Rattle.bitstream.specs.Outcome.{value, refused}
 use Rattle.aps.specs.ApsSyntax.{number_of}
 use Rattle.aps.specs.Rbsp.{read_rbsp}
-use Rattle.aps.specs.Unit.{is_aps, rbsp_of, admitted, parse_aps, work_after}
+use Rattle.aps.specs.Unit.{is_aps, rbsp_of, header_of, parse_nal_header, admitted, parse_aps, work_after}
 use Rattle.aps.specs.Kinds.{largest_id, most_bytes}
 use Rattle.aps.specs.Reading.{head_of}
 use Rattle.aps.specs.declared.aps.ApsHead.{ApsHead}
 use Rattle.aps.specs.declared.aps.VvcAps.{VvcAps}
+use Rattle.bitstream.proofs.CodeLaws.{value-refused}
 use Rattle.aps.proofs.CodecLaws.{then-value, and_left, and_right}
 use Rattle.aps.proofs.RbspLaws.{rbsp-end, read-most}
 use Rattle.aps.proofs.UnitSteps.{unit-refused}
@@ -26,6 +27,18 @@ use Rattle.aps_table.proofs.PlaceSteps.{place-within}
 use Rattle.aps_table.proofs.StoreLaws.{read_names, read_fits}
 
 -- ---- passed over
+
+-- a unit without a header is not passed over
+pub no-header : (u : List ℕ) {n : ℕ} → refused n ≡ parse_nal_header u → is_passed u ≡ false
+unfolding is_passed parse_nal_header
+no-header u {n} = go (ltb 65536 (length u)) (ltb (length u) 2) refl refl
+  where
+    go : (a b : Bool) → ltb 65536 (length u) ≡ a → ltb (length u) 2 ≡ b
+        → refused n ≡ cond a (refused 4) (cond b (refused 1) (value (header_of u) 16))
+        → (leb (length u) 65536 && (leb 2 (length u) && not (is_aps (get_or u 1 0 / 8)))) ≡ false
+    go true b ea eb e = rw (lt-leb (length u) 65536 (ltb-true _ _ ea))
+    go false true ea eb e = rw (le-leb (length u) 65536 (ltb-false _ _ ea), lt-leb 2 (length u) (ltb-true _ _ eb))
+    go false false ea eb e = absurd (value-refused (sym e))
 
 module _ (u w t : List ℕ) (p : is_passed u ≡ true) where
   -- its header is refused

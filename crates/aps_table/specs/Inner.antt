@@ -5,8 +5,7 @@ use Rattle.std.specs.Prelude.{ℕ, ◌+◌, ◌-◌, ◌*◌, ◌/◌, ◌≤◌
 use Rattle.std.proofs.Math.Option.{none, some}
 use Rattle.bitstream.specs.Outcome.{Outcome, value, refused, number}
 use Rattle.aps.specs.Kinds.{largest_id, most_bytes}
-use Rattle.aps_table.specs.declared.split.Unit.{Unit as Bounds}
-use Rattle.aps_table.specs.declared.split.Scan.{Scan}
+use Rattle.aps_table.specs.declared.split.Unit.{Unit as Next}
 use Rattle.aps_table.specs.Split.{Units, prepend, ended, gap, body}
 use Rattle.aps_table.specs.Places.{offset}
 
@@ -36,9 +35,9 @@ pub record UnitEnd (s : List ℕ) (a e : ℕ) : Type 0 where
   pub ends : body 0 (drop a s) ≡ prepend (between s a e) (ended (gap 0 (drop e s)))
 
 -- what is known after a step from place e
-abbrev pub Scanned : List ℕ → ℕ → Scan → Type 0
-Scanned s e (Scan.On r) = (e < r) × InUnit s e r
-Scanned s e Scan.End = UnitEnd s e e
+abbrev pub Scanned : List ℕ → ℕ → Option ℕ → Type 0
+Scanned s e (Some r) = (e < r) × InUnit s e r
+Scanned s e None = UnitEnd s e e
 
 -- a unit stands at places a to e, the first from place i on
 pub record UnitAt (s : List ℕ) (i a e : ℕ) : Type 0 where
@@ -47,9 +46,16 @@ pub record UnitAt (s : List ℕ) (i a e : ℕ) : Type 0 where
   pub to : e ≤ length s
   pub is : gap 0 (drop i s) ≡ prepend (between s a e) (ended (gap 0 (drop e s)))
 
+-- it is the unit u, whose rest goes on after it
+pub record UnitNext (s : List ℕ) (i : ℕ) (u : Next) : Type 0 where
+  pub start : ℕ
+  pub unit : UnitAt s i start u.rest.at
+  pub bytes : u.bytes.now ≡ between s start u.rest.at
+  pub rest : u.rest.bytes.now ≡ s
+
 -- the split from a place on, by what stands there
-abbrev pub Follows : List ℕ → ℕ → Result (Option Bounds) Refusal → Type 0
-Follows s i (Ok (Some u)) = UnitAt s i u.start u.end
+abbrev pub Follows : List ℕ → ℕ → Result (Option Next) Refusal → Type 0
+Follows s i (Ok (Some u)) = UnitNext s i u
 Follows s i (Ok None) = gap 0 (drop i s) ≡ some []
 Follows s i (Err e) = (e ≡ InvalidData) × (gap 0 (drop i s) ≡ none)
 

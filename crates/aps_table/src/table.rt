@@ -10,10 +10,11 @@ ghost use Rattle.aps_table.specs.Calls.{stream, alone, single, table_after, answ
 ghost use Rattle.aps_table.specs.Answers.{unit_answer, stream_answer, lookup_answer, head_answer, head_looked};
 
 use crate::places::{Place, Table};
-use crate::split::{check_split, next_unit};
+use crate::split::Cursor;
 use aps::aps::{ApsHead, VvcAps, parse_aps_head, parse_aps_rbsp};
+use aps::nal_header::parse_nal_header;
 use aps::unit::{is_aps, parse_unit_head};
-use bitstream::{LONGEST_INPUT, Refusal};
+use bitstream::{Input, Refusal};
 
 // What a unit alone comes to where it is not refused: it is accepted or passed over.
 #[derive(Clone, Copy, Debug, PartialEq, Eq)]
@@ -57,13 +58,10 @@ impl Counts {
 fn is_passed(unit: &[u8]) -> bool
     ensures { result ≡ is_passed unit.now }
 {
-    if LONGEST_INPUT < unit.len() {
-        return false;
+    match parse_nal_header(unit) {
+        Ok(header) => !is_aps(header.nal_unit_type),
+        Err(_) => false,
     }
-    if unit.len() < 2 {
-        return false;
-    }
-    !is_aps(unit[1] / 8)
 }
 
 // An APS unit, or one that is too long or too short for a header.
@@ -96,22 +94,23 @@ pub fn take_unit(table: &mut Table, unit: &[u8], work: &mut [u8]) -> Result<Take
 }
 
 // The units of a stream whose split holds, in order.
-fn take_units(table: &mut Table, bytes: &[u8], work: &mut [u8]) -> Counts
-    requires { (splits (split bytes.now) ≡ true) × (length bytes.now ≤ 65536) }
-    ensures counts { result ≡ tally (length work.old) (units_of (split bytes.now)) no_units }
-    ensures table { table.new ≡ take_units (length work.old) (units_of (split bytes.now)) table.old }
-    ensures work { work.new ≡ work_units (units_of (split bytes.now)) work.old }
+fn take_units(table: &mut Table, stream: Input<'_>, work: &mut [u8]) -> Counts
+    requires { splits (split stream.bytes.now) ≡ true }
+    ensures counts { result ≡ tally (length work.old) (units_of (split stream.entry.bytes.now)) no_units }
+    ensures table { table.new ≡ take_units (length work.old) (units_of (split stream.entry.bytes.now)) table.old }
+    ensures work { work.new ≡ work_units (units_of (split stream.entry.bytes.now)) work.old }
 {
     let mut counts = Counts {
         accepted: 0,
         refused: 0,
         passed: 0,
     };
-    let mut at = 0;
-    while let Ok(Some(unit)) = next_unit(bytes, at) {
-        let answer = take_unit(table, &bytes[unit.start..unit.end], work);
+    let mut rest = Cursor::new(stream);
+    // The next place is what the step gives; no index is counted.
+    while let Ok(Some(unit)) = rest.next_unit() {
+        let answer = take_unit(table, unit.bytes, work);
         counts = counts.with(answer);
-        at = unit.end;
+        rest = unit.rest;
     }
     counts
 }
@@ -122,14 +121,12 @@ pub fn take_stream(table: &mut Table, bytes: &[u8], work: &mut [u8]) -> Result<C
     ensures table { table.new ≡ table_after (stream bytes.now (length work.old)) table.old }
     ensures work { work.new ≡ work_after_stream bytes.now work.old }
 {
-    if LONGEST_INPUT < bytes.len() {
-        return Err(Refusal::InputTooLong);
-    }
-    check_split(bytes)?;
+    let stream = Input::new(bytes)?;
+    Cursor::check_split(stream)?;
     if work.len() < bytes.len() {
         return Err(Refusal::OutputTooShort);
     }
-    Ok(take_units(table, bytes, work))
+    Ok(take_units(table, stream, work))
 }
 
 // The set of a place, or 6.

@@ -1,21 +1,18 @@
--- `is_passed`: each test of the definition, in its order.
-use mathlib.Core.Path.{ap}
+-- `is_passed`: a unit without a header is not passed over, one with a header by its type.
+use mathlib.Core.Path.{ap, sym, ◌∙◌}
 use mathlib.Core.Bool.{not}
-use native.Mathlib.Omega.{arith}
-use lib.ListN.{length}
-use borrow.Author.Tests.{lt-leb, le-leb}
+use borrow.Author.Tests.{le-leb}
+use Rattle.aps.specs.Unit.{is_aps, header_of, outcome_h}
+use Rattle.aps.proofs.UnitSteps.{header-given}
 use Rattle.aps_table.specs.Taking.{is_passed}
+use Rattle.aps_table.proofs.TakeSteps.{no-header}
 use Rattle.aps_table.proofs.table.is_passed.Goals as goal
 
-pub returns-then-unit-gt-LONGEST_INPUT : goal.returns-then-unit-gt-LONGEST_INPUT
-unfolding is_passed
-returns-then-unit-gt-LONGEST_INPUT c = rw (lt-leb _ _ c.if-unit-gt-LONGEST_INPUT.true)
+pub returns-in-Ok : goal.returns-in-Ok
+unfolding is_passed header_of
+returns-in-Ok c =
+    let (two, short, h) = header-given _ _ (sym (ap outcome_h c.in-Ok.is) ∙ c.parse_nal_header.ensures) in
+    rw (le-leb _ _ short, le-leb _ _ two) (ap not (c.is_aps.ensures ∙ ap (λ h. is_aps h.nal_unit_type) h))
 
-pub returns-then-unit-lt2 : goal.returns-then-unit-lt2
-unfolding is_passed
-returns-then-unit-lt2 c =
-    rw (le-leb _ _ c.if-unit-gt-LONGEST_INPUT.false, lt-leb 2 (length c.args.unit.now) (omega (arith, c.if-unit-lt2.true)))
-
-pub returns : goal.returns
-unfolding is_passed
-returns c = rw (le-leb _ _ c.if-unit-gt-LONGEST_INPUT.false, le-leb _ _ c.if-unit-lt2.false) (ap not c.is_aps.ensures)
+pub returns-in-Err : goal.returns-in-Err
+returns-in-Err c = sym (no-header _ (sym (ap outcome_h c.in-Err.is) ∙ c.parse_nal_header.ensures))

@@ -1,8 +1,9 @@
 -- `next_unit`: after the zero bytes the end, a byte that may not stand there, or a unit.
 use mathlib.Core.Path.{refl, ◌∙◌}
 use native.Mathlib.Omega.{arith}
+use Prim.Native.Nat.{◌+◌}
 use Rattle.aps_table.proofs.SplitTurns.{next-end, next-other, next-few, next-starts}
-use Rattle.aps_table.proofs.split.next_unit.Goals as goal
+use Rattle.aps_table.proofs.split.Cursor.next_unit.Goals as goal
 
 pub returns-then-i-s : goal.returns-then-i-s
 returns-then-i-s c = next-end _ _ _ c.skip_zeros-i.ensures c.if-i-s.true
@@ -22,8 +23,13 @@ returns c =
     let k = c.skip_zeros-i.ensures in
     let u = c.unit_end-end.ensures in
     record {
-      after = omega (arith, k.from);
-      from = u.from;
-      to = u.to;
-      is = next-starts _ _ _ k (omega (arith, k.to, c.if-i-s.false)) c.if-s-i-ne1.false (omega (arith, c.if-i-from-lt2.false)) ∙ u.ends;
+      start = c.skip_zeros-i.result + 1;
+      unit = record {
+        after = omega (arith, k.from);
+        from = u.from;
+        to = u.to;
+        is = next-starts _ _ _ k (omega (arith, k.to, c.if-i-s.false)) c.if-s-i-ne1.false (omega (arith, c.if-i-from-lt2.false)) ∙ u.ends;
+      };
+      bytes = refl;
+      rest = refl;
     }
