@@ -19,6 +19,7 @@ fn written(r: Result<usize, Refusal>, out: &[u8]) {
 }
 
 // The whole output.
+// Not one function with `written`: the colon stands behind a refusal too.
 fn answer(r: Result<usize, Refusal>, out: &[u8]) {
     match r {
         Ok(n) => {
@@ -65,12 +66,11 @@ fn whole(way: Way, src: &[u8], out: &mut [u8]) {
 
 // Into an output with room.
 fn roomy(way: Way, src: &[u8]) {
-    let mut space = [0xFFu8; 16];
-    let out = &mut space[..];
+    let mut out = [0xFFu8; 16];
     asked(way, src);
     print::text(b" ->");
-    let r = answered(way, src, out);
-    written(r, out);
+    let r = answered(way, src, &mut out);
+    written(r, &out);
 }
 
 fn both(src: &[u8]) {
@@ -80,11 +80,12 @@ fn both(src: &[u8]) {
 
 // Every triple of the bytes 00 to 04.
 fn triples() {
-    let mut i: u8 = 0;
-    while i < 125 {
-        let three = [i / 25, i / 5 % 5, i % 5];
-        both(&three);
-        i += 1;
+    for a in 0..5u8 {
+        for b in 0..5u8 {
+            for c in 0..5u8 {
+                both(&[a, b, c]);
+            }
+        }
     }
 }
 
@@ -104,78 +105,58 @@ fn ending_cases() {
     both(b"\x00\x00\x04\x00\x00\xFF");
 }
 
-fn part(way: Way, src: &[u8], out: &mut [u8], room: usize)
-    requires { room ≤ length out.old }
-{
-    whole(way, src, &mut out[..room]);
-}
-
 // Into the first `room` of eight bytes.
-fn escape_into(src: &[u8], room: usize)
+fn into_eight(way: Way, src: &[u8], room: usize)
     requires { room ≤ 8 }
 {
     let mut out = [0xFFu8; 8];
-    part(Way::Escape, src, &mut out, room);
-}
-
-fn unescape_into(src: &[u8], room: usize)
-    requires { room ≤ 8 }
-{
-    let mut out = [0xFFu8; 8];
-    part(Way::Unescape, src, &mut out, room);
+    whole(way, src, &mut out[..room]);
 }
 
 // Just enough room, one byte less, and more.
 fn room_cases() {
-    escape_into(b"\x00\x00\x01", 4);
-    escape_into(b"\x00\x00\x01", 3);
-    escape_into(b"\x00\x00\x01", 8);
-    escape_into(b"\x05\x00\x00", 4);
-    escape_into(b"\x05\x00\x00", 3);
-    escape_into(b"\x00\x00\x00\x00\x00", 7);
-    escape_into(b"\x00\x00\x00\x00\x00", 6);
-    escape_into(b"", 0);
-    escape_into(b"\x07", 0);
+    into_eight(Way::Escape, b"\x00\x00\x01", 4);
+    into_eight(Way::Escape, b"\x00\x00\x01", 3);
+    into_eight(Way::Escape, b"\x00\x00\x01", 8);
+    into_eight(Way::Escape, b"\x05\x00\x00", 4);
+    into_eight(Way::Escape, b"\x05\x00\x00", 3);
+    into_eight(Way::Escape, b"\x00\x00\x00\x00\x00", 7);
+    into_eight(Way::Escape, b"\x00\x00\x00\x00\x00", 6);
+    into_eight(Way::Escape, b"", 0);
+    into_eight(Way::Escape, b"\x07", 0);
 }
 
 fn unescape_room_cases() {
-    unescape_into(b"\x00\x00\x03\x01", 3);
-    unescape_into(b"\x00\x00\x03\x01", 2);
-    unescape_into(b"\x00\x00\x03\x01", 8);
-    unescape_into(b"\x00\x00\x03", 2);
-    unescape_into(b"\x00\x00\x03", 1);
-    unescape_into(b"\x00\x00\x04", 3);
-    unescape_into(b"\x00\x00\x04", 2);
-    unescape_into(b"", 0);
-    unescape_into(b"\x07", 0);
+    into_eight(Way::Unescape, b"\x00\x00\x03\x01", 3);
+    into_eight(Way::Unescape, b"\x00\x00\x03\x01", 2);
+    into_eight(Way::Unescape, b"\x00\x00\x03\x01", 8);
+    into_eight(Way::Unescape, b"\x00\x00\x03", 2);
+    into_eight(Way::Unescape, b"\x00\x00\x03", 1);
+    into_eight(Way::Unescape, b"\x00\x00\x04", 3);
+    into_eight(Way::Unescape, b"\x00\x00\x04", 2);
+    into_eight(Way::Unescape, b"", 0);
+    into_eight(Way::Unescape, b"\x07", 0);
 }
 
-// The longest input, and one byte more.
-fn longest(way: Way, room: usize)
-    requires { room ≤ 98304 }
-{
-    let zeros = [0u8; 65536];
-    let mut out = [0xFFu8; 98304];
-    part(way, &zeros, &mut out, room);
-}
-
-fn too_long(way: Way, room: usize)
-    requires { room ≤ 98306 }
+// Of so many zero bytes, into so many.
+fn zeros(way: Way, n: usize, room: usize)
+    requires { (n ≤ 65537) × (room ≤ 98306) }
 {
     let zeros = [0u8; 65537];
     let mut out = [0xFFu8; 98306];
-    part(way, &zeros, &mut out, room);
+    whole(way, &zeros[..n], &mut out[..room]);
 }
 
+// The longest input, and one byte more.
 fn longest_cases() {
-    longest(Way::Escape, 98304);
-    longest(Way::Escape, 98303);
-    longest(Way::Unescape, 65536);
-    longest(Way::Unescape, 65535);
-    too_long(Way::Escape, 98306);
-    too_long(Way::Unescape, 98306);
-    too_long(Way::Escape, 0);
-    too_long(Way::Unescape, 0);
+    zeros(Way::Escape, 65536, 98304);
+    zeros(Way::Escape, 65536, 98303);
+    zeros(Way::Unescape, 65536, 65536);
+    zeros(Way::Unescape, 65536, 65535);
+    zeros(Way::Escape, 65537, 98306);
+    zeros(Way::Unescape, 65537, 98306);
+    zeros(Way::Escape, 65537, 0);
+    zeros(Way::Unescape, 65537, 0);
 }
 
 pub fn run() {

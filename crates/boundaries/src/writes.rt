@@ -46,7 +46,7 @@ fn asked(f: Field) {
         }
         Field::Se(v) => {
             print::text(b"write_se ");
-            print::signed(v);
+            print::signed(v.into());
         }
         Field::Trailing => print::text(b"write_rbsp_trailing_bits"),
     }
@@ -68,18 +68,12 @@ fn write(out: &mut [u8], at: usize, f: Field) {
     answer(w, out);
 }
 
-fn write_part(out: &mut [u8], room: usize, at: usize, f: Field)
-    requires { room ≤ length out.old }
-{
-    write(&mut out[..room], at, f);
-}
-
 // Into the first `room` of nine bytes.
 fn write_into(room: usize, at: usize, f: Field)
     requires { room ≤ 9 }
 {
     let mut out = [0xFFu8; 9];
-    write_part(&mut out, room, at, f);
+    write(&mut out[..room], at, f);
 }
 
 fn widths(at: usize) {
@@ -91,10 +85,9 @@ fn widths(at: usize) {
 }
 
 fn width_cases() {
-    widths(0);
-    widths(3);
-    widths(7);
-    widths(8);
+    for at in [0, 3, 7, 8] {
+        widths(at);
+    }
 }
 
 // Of a value wider than its width the low bits are written.
@@ -119,15 +112,18 @@ fn start_cases() {
     write_into(1, 1048577, Field::Trailing);
 }
 
-// An output with room for a field at the largest start.
-fn far_bits(value: u32, n: u32) {
+// At the largest start, into the first `room` bytes of an output that reaches behind it.
+fn far(room: usize, f: Field)
+    requires { room ≤ 131076 }
+{
     let mut out = [0u8; 131076];
-    write(&mut out, 1048576, Field::Bits(value, n));
+    write(&mut out[..room], 1048576, f);
 }
 
-fn far_trailing() {
-    let mut out = [0u8; 131073];
-    write(&mut out, 1048576, Field::Trailing);
+fn far_cases() {
+    far(131076, Field::Bits(0xFFFFFFFF, 32));
+    far(131076, Field::Bits(1, 33));
+    far(131073, Field::Trailing);
 }
 
 // Just enough room, then one byte less.
@@ -153,38 +149,32 @@ fn order_cases() {
     write_into(0, 1048577, Field::Trailing);
 }
 
-// Written, then read.
-fn ue_and_back(at: usize, value: u32) {
-    let mut space = [0xFFu8; 9];
-    let out = &mut space[..];
-    write(out, at, Field::Ue(value));
-    reads::ue(out, at);
+fn read(bytes: &[u8], at: usize, f: Field) {
+    match f {
+        Field::Bits(_, n) => reads::u(bytes, at, n),
+        Field::Ue(_) => reads::ue(bytes, at),
+        Field::Se(_) => reads::se(bytes, at),
+        Field::Trailing => reads::trailing(bytes, at),
+    }
 }
 
-fn se_and_back(at: usize, value: i32) {
-    let mut space = [0xFFu8; 9];
-    let out = &mut space[..];
-    write(out, at, Field::Se(value));
-    reads::se(out, at);
+// Written, then read.
+fn and_back(at: usize, f: Field) {
+    let mut out = [0xFFu8; 9];
+    write(&mut out, at, f);
+    read(&out, at, f);
 }
 
 fn ue_values(at: usize) {
-    ue_and_back(at, 0);
-    ue_and_back(at, 1);
-    ue_and_back(at, 2);
-    ue_and_back(at, 2147483646);
-    ue_and_back(at, 2147483647);
-    ue_and_back(at, 4294967294);
+    for v in [0, 1, 2, 2147483646, 2147483647, 4294967294] {
+        and_back(at, Field::Ue(v));
+    }
 }
 
 fn se_values(at: usize) {
-    se_and_back(at, 0);
-    se_and_back(at, 1);
-    se_and_back(at, -1);
-    se_and_back(at, 2);
-    se_and_back(at, -2);
-    se_and_back(at, 2147483647);
-    se_and_back(at, -2147483647);
+    for v in [0, 1, -1, 2, -2, 2147483647, -2147483647] {
+        and_back(at, Field::Se(v));
+    }
 }
 
 fn value_cases() {
@@ -197,23 +187,16 @@ fn value_cases() {
 }
 
 fn trailing_cases() {
-    write_into(2, 0, Field::Trailing);
-    write_into(2, 1, Field::Trailing);
-    write_into(2, 2, Field::Trailing);
-    write_into(2, 3, Field::Trailing);
-    write_into(2, 4, Field::Trailing);
-    write_into(2, 5, Field::Trailing);
-    write_into(2, 6, Field::Trailing);
-    write_into(2, 7, Field::Trailing);
+    for at in 0..8 {
+        write_into(2, at, Field::Trailing);
+    }
 }
 
 pub fn run() {
     width_cases();
     wide_value_cases();
     start_cases();
-    far_bits(0xFFFFFFFF, 32);
-    far_bits(1, 33);
-    far_trailing();
+    far_cases();
     room_cases();
     order_cases();
     value_cases();
