@@ -71,6 +71,7 @@ fn unit_end(s: &[u8], start: usize) -> usize
     ensures { UnitEnd s.now start result }
 {
     let mut e = start;
+    // The next place is what the step gives; no index is counted.
     while let Scan::On(next) = scan_on(s, e) {
         e = next;
     }
@@ -110,6 +111,7 @@ pub(crate) fn check_split(s: &[u8]) -> Result<(), Refusal>
     ensures { Checks (split s.now) result }
 {
     let mut at = 0;
+    // The next place is the end of the unit that was found; no index is counted.
     while let Some(unit) = next_unit(s, at)? {
         at = unit.end;
     }

@@ -108,6 +108,7 @@ fn take_units(table: &mut Table, bytes: &[u8], work: &mut [u8]) -> Counts
         passed: 0,
     };
     let mut at = 0;
+    // The next place is the end of the unit that was found; no index is counted.
     while let Ok(Some(unit)) = next_unit(bytes, at) {
         let answer = take_unit(table, &bytes[unit.start..unit.end], work);
         counts = counts.with(answer);
