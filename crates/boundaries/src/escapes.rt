@@ -1,5 +1,5 @@
 // Escapes put in and removed.
-ghost use Rattle.std.specs.Prelude.{◌≤◌, length};
+ghost use Rattle.std.specs.Prelude.{◌≤◌};
 
 use crate::print;
 use bitstream::{Refusal, nal};

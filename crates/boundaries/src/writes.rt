@@ -1,5 +1,5 @@
 // Writes of fields into outputs that hold ones, so that kept bits and zeros show.
-ghost use Rattle.std.specs.Prelude.{◌≤◌, length};
+ghost use Rattle.std.specs.Prelude.{◌≤◌};
 
 use crate::{print, reads};
 use bitstream::{Refusal, bit_writer};

@@ -8,7 +8,7 @@ ghost use Rattle.std.specs.Prelude.{◌<◌, ◌≤◌, length};
 ghost use Rattle.io.specs.Counts.{IsPrefixLen};
 
 use crate::print::{number, runs, text};
-use aps_c::aps_parse_rbsp;
+use aps_c::{NUMBERS, aps_parse_rbsp};
 
 // The value of a hexadecimal digit, 0 of another character.
 fn digit(c: u8) -> u8
@@ -41,8 +41,9 @@ fn find(s: &[u8], at: usize, c: u8) -> usize
     s.len()
 }
 
+// A number and lent arrays in place of a Result: aps_c answers as C's calls do.
 fn answer(rbsp: &[u8]) {
-    let mut set = [0i64; 3122];
+    let mut set = [0i64; NUMBERS];
     let mut end = [0u64; 1];
     let code = aps_parse_rbsp(rbsp, &mut set, &mut end);
     if code == 0 {

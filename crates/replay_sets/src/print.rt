@@ -1,4 +1,6 @@
 // Words, numbers and bytes to standard output.
+// The few calls that `boundaries` has too: a crate for both would be longer than they are.
+use aps_c::NUMBERS;
 
 // By the toolchain's crate `io`, whose calls answer no error: std's `println!` gives a Result, which every caller here would have to hand on.
 pub fn text(s: &[u8]) {
@@ -24,7 +26,7 @@ fn item(i: usize, first: bool, v: i64) {
 }
 
 // The numbers that are not 0, after the index of the first in a row.
-pub fn runs(numbers: &[i64; 3122]) {
+pub fn runs(numbers: &[i64; NUMBERS]) {
     let mut first = true;
     for (i, &v) in numbers.iter().enumerate() {
         if v != 0 {

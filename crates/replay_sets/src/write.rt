@@ -1,10 +1,8 @@
 // A set with one of its numbers changed, written as an RBSP and as a unit.
-ghost use Rattle.std.specs.Prelude.{◌<◌, ◌≡◌, length};
-
 use crate::print::{hexadecimal, number, text};
-use aps_c::{aps_parse_rbsp, aps_write, aps_write_nal};
+use aps_c::{NUMBERS, aps_parse_rbsp, aps_write, aps_write_nal};
 
-// The bytes of an answer, or the refusal's number.
+// The bytes of an answer, or the refusal's number, as C's calls give them.
 fn answered(code: u32, out: &[u8], len: u64) {
     if code == 0 {
         number(len);
@@ -13,15 +11,6 @@ fn answered(code: u32, out: &[u8], len: u64) {
     } else {
         text(b"refused ");
         number(code as u64);
-    }
-}
-
-// Not by `get_mut`, which says nothing of what the slice ends as.
-fn put(set: &mut [i64; 3122], i: usize, value: i64)
-    ensures { length set.new ≡ length set.old }
-{
-    if i < 3122 {
-        set[i] = value;
     }
 }
 
@@ -65,10 +54,12 @@ impl Change {
 }
 
 fn changed(rbsp: &[u8], change: Change) {
-    let mut set = [0i64; 3122];
+    let mut set = [0i64; NUMBERS];
     let mut end = [0u64; 1];
     aps_parse_rbsp(rbsp, &mut set, &mut end);
-    put(&mut set, change.index, change.value);
+    if let Some(number) = set.get_mut(change.index) {
+        *number = change.value;
+    }
     within(&set, change.room);
 }
 
