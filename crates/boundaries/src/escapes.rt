@@ -5,6 +5,7 @@ use crate::print;
 use bitstream::{Refusal, nal};
 
 // What was written, and nothing of the rest.
+// Not by `print::answer`, which has the colon behind a refusal too.
 fn written(r: Result<usize, Refusal>, out: &[u8]) {
     match r {
         Ok(n) => {
@@ -18,58 +19,46 @@ fn written(r: Result<usize, Refusal>, out: &[u8]) {
     print::end_line();
 }
 
-// The whole output.
-// Not one function with `written`: the colon stands behind a refusal too.
-fn answer(r: Result<usize, Refusal>, out: &[u8]) {
-    match r {
-        Ok(n) => {
-            print::text(b" ");
-            print::number(n as u64);
-        }
-        Err(e) => print::refused(e),
-    }
-    print::text(b":");
-    print::bytes(out);
-    print::end_line();
-}
-
 // Which of the two calls.
+// Told apart by `match`: a trait with a type for each call would be longer.
 #[derive(Clone, Copy)]
 enum Way {
     Escape,
     Unescape,
 }
 
-fn asked(way: Way, src: &[u8]) {
-    match way {
-        Way::Escape => print::text(b"escape"),
-        Way::Unescape => print::text(b"unescape"),
+impl Way {
+    fn ask(self, src: &[u8]) {
+        match self {
+            Way::Escape => print::text(b"escape"),
+            Way::Unescape => print::text(b"unescape"),
+        }
+        print::bytes(src);
     }
-    print::bytes(src);
-}
 
-fn answered(way: Way, src: &[u8], out: &mut [u8]) -> Result<usize, Refusal> {
-    match way {
-        Way::Escape => nal::rbsp_to_ebsp(src, out),
-        Way::Unescape => nal::ebsp_to_rbsp(src, out),
+    fn answer(self, src: &[u8], out: &mut [u8]) -> Result<usize, Refusal> {
+        match self {
+            Way::Escape => nal::rbsp_to_ebsp(src, out),
+            Way::Unescape => nal::ebsp_to_rbsp(src, out),
+        }
     }
 }
 
 fn whole(way: Way, src: &[u8], out: &mut [u8]) {
-    asked(way, src);
+    way.ask(src);
     print::text(b" into");
     print::bytes(out);
     print::text(b" ->");
-    let r = answered(way, src, out);
-    answer(r, out);
+    let r = way.answer(src, out);
+    print::answer(b" ", r, out);
 }
 
 // Into an output with room.
 fn roomy(way: Way, src: &[u8]) {
     let mut out = [0xFFu8; 16];
-    asked(way, src);
+    way.ask(src);
     print::text(b" ->");
-    let r = answered(way, src, &mut out);
+    let r = way.answer(src, &mut out);
     written(r, &out);
 }
 

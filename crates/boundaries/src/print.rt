@@ -53,6 +53,29 @@ pub fn refused(e: Refusal) {
     number(u32::from(e) as u64);
 }
 
+// Where a call is made, and the bytes that it is given.
+pub fn place(at: usize, word: &[u8], given: &[u8]) {
+    text(b" at ");
+    number(at as u64);
+    text(word);
+    bytes(given);
+    text(b" ->");
+}
+
+// A number behind its words, or what was refused; then the whole output.
+pub fn answer(words: &[u8], r: Result<usize, Refusal>, out: &[u8]) {
+    match r {
+        Ok(n) => {
+            text(words);
+            number(n as u64);
+        }
+        Err(e) => refused(e),
+    }
+    text(b":");
+    bytes(out);
+    end_line();
+}
+
 // The bit after a field.
 pub fn bit(p: usize) {
     text(b" bit ");

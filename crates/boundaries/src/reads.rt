@@ -3,14 +3,6 @@ use crate::print;
 use bitstream::Refusal;
 use bitstream::bit_reader::{BitReader, Field};
 
-fn of(at: usize, bytes: &[u8]) {
-    print::text(b" at ");
-    print::number(at as u64);
-    print::text(b" of");
-    print::bytes(bytes);
-    print::text(b" ->");
-}
-
 fn field<T: Into<i64>>(read: Result<Field<T>, Refusal>) {
     match read {
         Ok(field) => {
@@ -40,25 +32,25 @@ fn aligned(read: Result<BitReader, Refusal>) {
 pub fn u(bytes: &[u8], at: usize, n: u32) {
     print::text(b"u ");
     print::number(n as u64);
-    of(at, bytes);
+    print::place(at, b" of", bytes);
     field((BitReader { bit_pos: at }).u(bytes, n));
 }
 
 pub fn ue(bytes: &[u8], at: usize) {
     print::text(b"ue");
-    of(at, bytes);
+    print::place(at, b" of", bytes);
     field((BitReader { bit_pos: at }).ue(bytes));
 }
 
 pub fn se(bytes: &[u8], at: usize) {
     print::text(b"se");
-    of(at, bytes);
+    print::place(at, b" of", bytes);
     field((BitReader { bit_pos: at }).se(bytes));
 }
 
 pub fn trailing(bytes: &[u8], at: usize) {
     print::text(b"read_rbsp_trailing_bits");
-    of(at, bytes);
+    print::place(at, b" of", bytes);
     aligned((BitReader { bit_pos: at }).read_rbsp_trailing_bits(bytes));
 }
 

@@ -4,24 +4,6 @@ ghost use Rattle.std.specs.Prelude.{◌≤◌};
 use crate::{print, reads};
 use bitstream::{Refusal, bit_writer};
 
-fn into(at: usize, out: &[u8]) {
-    print::text(b" at ");
-    print::number(at as u64);
-    print::text(b" into");
-    print::bytes(out);
-    print::text(b" ->");
-}
-
-fn answer(w: Result<usize, Refusal>, out: &[u8]) {
-    match w {
-        Ok(q) => print::bit(q),
-        Err(e) => print::refused(e),
-    }
-    print::text(b":");
-    print::bytes(out);
-    print::end_line();
-}
-
 // A field to write.
 #[derive(Clone, Copy)]
 enum Field {
@@ -32,40 +14,51 @@ enum Field {
     Trailing,
 }
 
-fn asked(f: Field) {
-    match f {
-        Field::Bits(v, n) => {
-            print::text(b"write_bits ");
-            print::number(v as u64);
-            print::text(b" width ");
-            print::number(n as u64);
+impl Field {
+    fn ask(self) {
+        match self {
+            Field::Bits(v, n) => {
+                print::text(b"write_bits ");
+                print::number(v as u64);
+                print::text(b" width ");
+                print::number(n as u64);
+            }
+            Field::Ue(v) => {
+                print::text(b"write_ue ");
+                print::number(v as u64);
+            }
+            Field::Se(v) => {
+                print::text(b"write_se ");
+                print::signed(v.into());
+            }
+            Field::Trailing => print::text(b"write_rbsp_trailing_bits"),
         }
-        Field::Ue(v) => {
-            print::text(b"write_ue ");
-            print::number(v as u64);
-        }
-        Field::Se(v) => {
-            print::text(b"write_se ");
-            print::signed(v.into());
-        }
-        Field::Trailing => print::text(b"write_rbsp_trailing_bits"),
     }
-}
 
-fn written(out: &mut [u8], at: usize, f: Field) -> Result<usize, Refusal> {
-    match f {
-        Field::Bits(v, n) => bit_writer::write_bits(out, at, v, n),
-        Field::Ue(v) => bit_writer::write_ue(out, at, v),
-        Field::Se(v) => bit_writer::write_se(out, at, v),
-        Field::Trailing => bit_writer::write_rbsp_trailing_bits(out, at),
+    fn write(self, out: &mut [u8], at: usize) -> Result<usize, Refusal> {
+        match self {
+            Field::Bits(v, n) => bit_writer::write_bits(out, at, v, n),
+            Field::Ue(v) => bit_writer::write_ue(out, at, v),
+            Field::Se(v) => bit_writer::write_se(out, at, v),
+            Field::Trailing => bit_writer::write_rbsp_trailing_bits(out, at),
+        }
+    }
+
+    fn read(self, bytes: &[u8], at: usize) {
+        match self {
+            Field::Bits(_, n) => reads::u(bytes, at, n),
+            Field::Ue(_) => reads::ue(bytes, at),
+            Field::Se(_) => reads::se(bytes, at),
+            Field::Trailing => reads::trailing(bytes, at),
+        }
     }
 }
 
 fn write(out: &mut [u8], at: usize, f: Field) {
-    asked(f);
-    into(at, out);
-    let w = written(out, at, f);
-    answer(w, out);
+    f.ask();
+    print::place(at, b" into", out);
+    let w = f.write(out, at);
+    print::answer(b" bit ", w, out);
 }
 
 // Into the first `room` of nine bytes.
@@ -149,20 +142,11 @@ fn order_cases() {
     write_into(0, 1048577, Field::Trailing);
 }
 
-fn read(bytes: &[u8], at: usize, f: Field) {
-    match f {
-        Field::Bits(_, n) => reads::u(bytes, at, n),
-        Field::Ue(_) => reads::ue(bytes, at),
-        Field::Se(_) => reads::se(bytes, at),
-        Field::Trailing => reads::trailing(bytes, at),
-    }
-}
-
 // Written, then read.
 fn and_back(at: usize, f: Field) {
     let mut out = [0xFFu8; 9];
     write(&mut out, at, f);
-    read(&out, at, f);
+    f.read(&out, at);
 }
 
 fn ue_values(at: usize) {

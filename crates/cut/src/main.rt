@@ -13,7 +13,7 @@ fn refused(why: Refusal) {
     io::write_all(2, b"\n");
 }
 
-// The list at a cut after the stream, at the start of `out`, and its length.
+// The list at a cut after the stream, at the start of `out`, and its length: no heap is used.
 fn list_after(stream: &[u8], out: &mut [u8]) -> Result<usize, Refusal> {
     let mut work = io::large_buffer();
     let mut table = new_table();

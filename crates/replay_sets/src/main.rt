@@ -18,6 +18,7 @@ fn digit(c: u8) -> u8
 }
 
 // The bytes that the digits stand for, as many as there is room for.
+// Into a lent buffer, with how many there are: no heap is used.
 fn decode(digits: &[u8], out: &mut [u8]) -> usize
     ensures { IsPrefixLen result out.new }
 {
@@ -33,12 +34,10 @@ fn find(s: &[u8], at: usize, c: u8) -> usize
     requires { at ≤ length s.now }
     ensures { (at ≤ result) × (result ≤ length s.now) }
 {
-    for i in at..s.len() {
-        if s[i] == c {
-            return i;
-        }
-    }
-    s.len()
+    s[at..]
+        .iter()
+        .position(|&b| b == c)
+        .map_or(s.len(), |i| at + i)
 }
 
 // A number and lent arrays in place of a Result: aps_c answers as C's calls do.

@@ -25,6 +25,7 @@ fn flag(f: bool) {
 }
 
 // Kind, id, chroma flag and extension flag.
+// A kind goes by its number, as `lookup_head` takes it and as it is printed.
 fn print_set(kind: u8, id: u8, head: ApsHead) {
     number(kind.into());
     text(b" ");
