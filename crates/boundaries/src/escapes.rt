@@ -127,25 +127,26 @@ fn unescape_room_cases() {
     into_eight(Way::Unescape, b"\x07", 0);
 }
 
-// Of so many zero bytes, into so many.
-fn zeros(way: Way, n: usize, room: usize)
-    requires { (n ≤ 65537) × (room ≤ 98306) }
+// Into the first `room` bytes of as many as the longest input of zeros can need, and more.
+fn into_most(way: Way, src: &[u8], room: usize)
+    requires { room ≤ 98306 }
 {
-    let zeros = [0u8; 65537];
     let mut out = [0xFFu8; 98306];
-    whole(way, &zeros[..n], &mut out[..room]);
+    whole(way, src, &mut out[..room]);
 }
 
 // The longest input, and one byte more.
 fn longest_cases() {
-    zeros(Way::Escape, 65536, 98304);
-    zeros(Way::Escape, 65536, 98303);
-    zeros(Way::Unescape, 65536, 65536);
-    zeros(Way::Unescape, 65536, 65535);
-    zeros(Way::Escape, 65537, 98306);
-    zeros(Way::Unescape, 65537, 98306);
-    zeros(Way::Escape, 65537, 0);
-    zeros(Way::Unescape, 65537, 0);
+    let longest = [0u8; 65536];
+    into_most(Way::Escape, &longest, 98304);
+    into_most(Way::Escape, &longest, 98303);
+    into_most(Way::Unescape, &longest, 65536);
+    into_most(Way::Unescape, &longest, 65535);
+    let too_long = [0u8; 65537];
+    into_most(Way::Escape, &too_long, 98306);
+    into_most(Way::Unescape, &too_long, 98306);
+    into_most(Way::Escape, &too_long, 0);
+    into_most(Way::Unescape, &too_long, 0);
 }
 
 pub fn run() {

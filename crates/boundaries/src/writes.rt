@@ -105,18 +105,11 @@ fn start_cases() {
     write_into(1, 1048577, Field::Trailing);
 }
 
-// At the largest start, into the first `room` bytes of an output that reaches behind it.
-fn far(room: usize, f: Field)
-    requires { room ≤ 131076 }
-{
-    let mut out = [0u8; 131076];
-    write(&mut out[..room], 1048576, f);
-}
-
+// At the largest start, into an output that reaches behind it.
 fn far_cases() {
-    far(131076, Field::Bits(0xFFFFFFFF, 32));
-    far(131076, Field::Bits(1, 33));
-    far(131073, Field::Trailing);
+    write(&mut [0; 131076], 1048576, Field::Bits(0xFFFFFFFF, 32));
+    write(&mut [0; 131076], 1048576, Field::Bits(1, 33));
+    write(&mut [0; 131073], 1048576, Field::Trailing);
 }
 
 // Just enough room, then one byte less.
