@@ -50,7 +50,7 @@ pub fn bytes(s: &[u8]) {
 
 pub fn refused(e: Refusal) {
     text(b" refused ");
-    number(u32::from(e) as u64);
+    number(u32::from(e).into());
 }
 
 // Where a call is made, and the bytes that it is given.

@@ -7,6 +7,7 @@ use aps_table::table::take_stream;
 use bitstream::Refusal;
 
 // By the toolchain's crate `io`, whose calls answer no error: a refusal is all that `main` tells.
+// sets_text writes the same to standard output: a crate for both would be longer.
 fn refused(why: Refusal) {
     io::write_all(2, b"refused ");
     io::print_decimal(2, u32::from(why) as u64);
@@ -22,6 +23,7 @@ fn list_after(stream: &[u8], out: &mut [u8]) -> Result<usize, Refusal> {
 }
 
 fn main() {
+    // A fixed buffer and how much was read: no heap is used.
     // One byte more than the longest stream, so that a longer one is seen to be longer.
     let mut input = [0u8; 65537];
     let n = io::read_full(0, &mut input);

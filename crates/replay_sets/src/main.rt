@@ -82,6 +82,7 @@ fn line(s: &[u8]) {
 }
 
 fn main() {
+    // A fixed buffer and how much was read: no heap is used.
     let mut input = io::large_buffer();
     let n = io::read_full(0, &mut input);
     for s in input[..n].split(|&b| b == b'\n') {

@@ -68,6 +68,7 @@ pub fn print_sets(bytes: &[u8]) -> Result<Counts, Refusal>
 
 // The same of standard input.
 pub fn print_input() {
+    // A fixed buffer and how much was read: no heap is used.
     // One byte more than the longest stream, so that a longer one is seen to be longer.
     let mut input = [0u8; 65537];
     let n = io::read_full(0, &mut input);
