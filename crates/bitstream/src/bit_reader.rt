@@ -112,6 +112,7 @@ impl BitReader {
         let mut q = p;
         let mut zeros: u32 = 0;
         // for( b = 0; !b; leadingZeroBits++ ) b = read_bits( 1 ): the clause's own loop, which yields the zeros.
+        // No `for`: a 1 bit ends it, wherever that stands, and it gives what it counted.
         let leading_zero_bits = loop {
             // Not in the clause: the input's end stops the zeros, and has no 1 bit to pass.
             if end <= q {

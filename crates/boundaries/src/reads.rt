@@ -3,31 +3,11 @@ use crate::print;
 use bitstream::Refusal;
 use bitstream::bit_reader::{BitReader, Field};
 
-fn of(at: usize, bytes: &[u8]) {
-    print::text(b" at ");
-    print::number(at as u64);
-    print::text(b" of");
-    print::bytes(bytes);
-    print::text(b" ->");
-}
-
-fn unsigned(read: Result<Field<u32>, Refusal>) {
+fn field<T: Into<i64>>(read: Result<Field<T>, Refusal>) {
     match read {
         Ok(field) => {
             print::text(b" ");
-            print::number(field.value as u64);
-            after(field.next, field.lacking);
-        }
-        Err(why) => print::refused(why),
-    }
-    print::end_line();
-}
-
-fn signed(read: Result<Field<i32>, Refusal>) {
-    match read {
-        Ok(field) => {
-            print::text(b" ");
-            print::signed(field.value);
+            print::signed(field.value.into());
             after(field.next, field.lacking);
         }
         Err(why) => print::refused(why),
@@ -52,34 +32,32 @@ fn aligned(read: Result<BitReader, Refusal>) {
 pub fn u(bytes: &[u8], at: usize, n: u32) {
     print::text(b"u ");
     print::number(n as u64);
-    of(at, bytes);
-    unsigned((BitReader { bit_pos: at }).u(bytes, n));
+    print::place(at, b" of", bytes);
+    field((BitReader { bit_pos: at }).u(bytes, n));
 }
 
 pub fn ue(bytes: &[u8], at: usize) {
     print::text(b"ue");
-    of(at, bytes);
-    unsigned((BitReader { bit_pos: at }).ue(bytes));
+    print::place(at, b" of", bytes);
+    field((BitReader { bit_pos: at }).ue(bytes));
 }
 
 pub fn se(bytes: &[u8], at: usize) {
     print::text(b"se");
-    of(at, bytes);
-    signed((BitReader { bit_pos: at }).se(bytes));
+    print::place(at, b" of", bytes);
+    field((BitReader { bit_pos: at }).se(bytes));
 }
 
 pub fn trailing(bytes: &[u8], at: usize) {
     print::text(b"read_rbsp_trailing_bits");
-    of(at, bytes);
+    print::place(at, b" of", bytes);
     aligned((BitReader { bit_pos: at }).read_rbsp_trailing_bits(bytes));
 }
 
 fn widths(bytes: &[u8], at: usize) {
-    u(bytes, at, 0);
-    u(bytes, at, 1);
-    u(bytes, at, 31);
-    u(bytes, at, 32);
-    u(bytes, at, 33);
+    for n in [0, 1, 31, 32, 33] {
+        u(bytes, at, n);
+    }
 }
 
 fn each_kind(bytes: &[u8], at: usize) {
@@ -113,10 +91,9 @@ fn empty_cases() {
 
 fn longest_cases() {
     let longest = [0xFFu8; 65536];
-    each_kind(&longest, 0);
-    each_kind(&longest, 524280);
-    each_kind(&longest, 524287);
-    each_kind(&longest, 524288);
+    for at in [0, 524280, 524287, 524288] {
+        each_kind(&longest, at);
+    }
 }
 
 fn too_long_cases() {
@@ -152,62 +129,44 @@ fn zeros_inside_cases() {
 
 // 32 zeros to the end, then 31, and so on to none.
 fn zeros_to_the_end(zeros: &[u8]) {
-    let mut at: usize = 0;
-    while at < 34 {
+    for at in 0..34 {
         ue(zeros, at);
         se(zeros, at);
-        at += 1;
     }
 }
 
 fn zero_bytes_cases() {
-    let four = [0u8; 4];
-    zeros_to_the_end(&four);
-    let one = [0u8];
-    ue(&one, 0);
-    let two = [0u8; 2];
-    ue(&two, 0);
-    let three = [0u8; 3];
-    ue(&three, 0);
-    let five = [0u8; 5];
-    ue(&five, 0);
+    zeros_to_the_end(&[0; 4]);
+    ue(&[0], 0);
+    ue(&[0; 2], 0);
+    ue(&[0; 3], 0);
+    ue(&[0; 5], 0);
 }
 
 // The suffix of a ue past the input's end.
 fn suffix_cases() {
-    let one = [1u8];
-    ue(&one, 0);
-    se(&one, 0);
-    let five = [5u8];
-    ue(&five, 0);
-    se(&five, 0);
-    let four_bytes = [0u8, 0, 0, 1];
-    ue(&four_bytes, 0);
-    se(&four_bytes, 0);
+    ue(&[1], 0);
+    se(&[1], 0);
+    ue(&[5], 0);
+    se(&[5], 0);
+    ue(&[0, 0, 0, 1], 0);
+    se(&[0, 0, 0, 1], 0);
 }
 
 // The largest and the least se.
 fn signed_end_cases() {
-    let largest = [0u8, 0, 0, 1, 0xFF, 0xFF, 0xFF, 0xFC];
-    se(&largest, 0);
-    let least = [0u8, 0, 0, 1, 0xFF, 0xFF, 0xFF, 0xFE];
-    se(&least, 0);
+    se(&[0, 0, 0, 1, 0xFF, 0xFF, 0xFF, 0xFC], 0);
+    se(&[0, 0, 0, 1, 0xFF, 0xFF, 0xFF, 0xFE], 0);
 }
 
-fn trailing_of(b: u8, at: usize) {
-    let one = [b];
-    trailing(&one, at);
-}
-
+// A 1 bit behind as many ones as the place says, and zeros.
 fn stop_bit_cases() {
-    trailing_of(0x80, 0);
-    trailing_of(0xC0, 1);
-    trailing_of(0xE0, 2);
-    trailing_of(0xF0, 3);
-    trailing_of(0xF8, 4);
-    trailing_of(0xFC, 5);
-    trailing_of(0xFE, 6);
-    trailing_of(0xFF, 7);
+    for (at, b) in [0x80, 0xC0, 0xE0, 0xF0, 0xF8, 0xFC, 0xFE, 0xFF]
+        .into_iter()
+        .enumerate()
+    {
+        trailing(&[b], at);
+    }
 }
 
 fn no_stop_bit_cases() {

@@ -1,26 +1,8 @@
 // Writes of fields into outputs that hold ones, so that kept bits and zeros show.
-ghost use Rattle.std.specs.Prelude.{◌≤◌, length};
+ghost use Rattle.std.specs.Prelude.{◌≤◌};
 
 use crate::{print, reads};
 use bitstream::{Refusal, bit_writer};
-
-fn into(at: usize, out: &[u8]) {
-    print::text(b" at ");
-    print::number(at as u64);
-    print::text(b" into");
-    print::bytes(out);
-    print::text(b" ->");
-}
-
-fn answer(w: Result<usize, Refusal>, out: &[u8]) {
-    match w {
-        Ok(q) => print::bit(q),
-        Err(e) => print::refused(e),
-    }
-    print::text(b":");
-    print::bytes(out);
-    print::end_line();
-}
 
 // A field to write.
 #[derive(Clone, Copy)]
@@ -32,46 +14,51 @@ enum Field {
     Trailing,
 }
 
-fn asked(f: Field) {
-    match f {
-        Field::Bits(v, n) => {
-            print::text(b"write_bits ");
-            print::number(v as u64);
-            print::text(b" width ");
-            print::number(n as u64);
+impl Field {
+    fn ask(self) {
+        match self {
+            Field::Bits(v, n) => {
+                print::text(b"write_bits ");
+                print::number(v as u64);
+                print::text(b" width ");
+                print::number(n as u64);
+            }
+            Field::Ue(v) => {
+                print::text(b"write_ue ");
+                print::number(v as u64);
+            }
+            Field::Se(v) => {
+                print::text(b"write_se ");
+                print::signed(v.into());
+            }
+            Field::Trailing => print::text(b"write_rbsp_trailing_bits"),
         }
-        Field::Ue(v) => {
-            print::text(b"write_ue ");
-            print::number(v as u64);
-        }
-        Field::Se(v) => {
-            print::text(b"write_se ");
-            print::signed(v);
-        }
-        Field::Trailing => print::text(b"write_rbsp_trailing_bits"),
     }
-}
 
-fn written(out: &mut [u8], at: usize, f: Field) -> Result<usize, Refusal> {
-    match f {
-        Field::Bits(v, n) => bit_writer::write_bits(out, at, v, n),
-        Field::Ue(v) => bit_writer::write_ue(out, at, v),
-        Field::Se(v) => bit_writer::write_se(out, at, v),
-        Field::Trailing => bit_writer::write_rbsp_trailing_bits(out, at),
+    fn write(self, out: &mut [u8], at: usize) -> Result<usize, Refusal> {
+        match self {
+            Field::Bits(v, n) => bit_writer::write_bits(out, at, v, n),
+            Field::Ue(v) => bit_writer::write_ue(out, at, v),
+            Field::Se(v) => bit_writer::write_se(out, at, v),
+            Field::Trailing => bit_writer::write_rbsp_trailing_bits(out, at),
+        }
+    }
+
+    fn read(self, bytes: &[u8], at: usize) {
+        match self {
+            Field::Bits(_, n) => reads::u(bytes, at, n),
+            Field::Ue(_) => reads::ue(bytes, at),
+            Field::Se(_) => reads::se(bytes, at),
+            Field::Trailing => reads::trailing(bytes, at),
+        }
     }
 }
 
 fn write(out: &mut [u8], at: usize, f: Field) {
-    asked(f);
-    into(at, out);
-    let w = written(out, at, f);
-    answer(w, out);
-}
-
-fn write_part(out: &mut [u8], room: usize, at: usize, f: Field)
-    requires { room ≤ length out.old }
-{
-    write(&mut out[..room], at, f);
+    f.ask();
+    print::place(at, b" into", out);
+    let w = f.write(out, at);
+    print::answer(b" bit ", w, out);
 }
 
 // Into the first `room` of nine bytes.
@@ -79,7 +66,7 @@ fn write_into(room: usize, at: usize, f: Field)
     requires { room ≤ 9 }
 {
     let mut out = [0xFFu8; 9];
-    write_part(&mut out, room, at, f);
+    write(&mut out[..room], at, f);
 }
 
 fn widths(at: usize) {
@@ -91,10 +78,9 @@ fn widths(at: usize) {
 }
 
 fn width_cases() {
-    widths(0);
-    widths(3);
-    widths(7);
-    widths(8);
+    for at in [0, 3, 7, 8] {
+        widths(at);
+    }
 }
 
 // Of a value wider than its width the low bits are written.
@@ -119,15 +105,11 @@ fn start_cases() {
     write_into(1, 1048577, Field::Trailing);
 }
 
-// An output with room for a field at the largest start.
-fn far_bits(value: u32, n: u32) {
-    let mut out = [0u8; 131076];
-    write(&mut out, 1048576, Field::Bits(value, n));
-}
-
-fn far_trailing() {
-    let mut out = [0u8; 131073];
-    write(&mut out, 1048576, Field::Trailing);
+// At the largest start, into an output that reaches behind it.
+fn far_cases() {
+    write(&mut [0; 131076], 1048576, Field::Bits(0xFFFFFFFF, 32));
+    write(&mut [0; 131076], 1048576, Field::Bits(1, 33));
+    write(&mut [0; 131073], 1048576, Field::Trailing);
 }
 
 // Just enough room, then one byte less.
@@ -154,37 +136,22 @@ fn order_cases() {
 }
 
 // Written, then read.
-fn ue_and_back(at: usize, value: u32) {
-    let mut space = [0xFFu8; 9];
-    let out = &mut space[..];
-    write(out, at, Field::Ue(value));
-    reads::ue(out, at);
-}
-
-fn se_and_back(at: usize, value: i32) {
-    let mut space = [0xFFu8; 9];
-    let out = &mut space[..];
-    write(out, at, Field::Se(value));
-    reads::se(out, at);
+fn and_back(at: usize, f: Field) {
+    let mut out = [0xFFu8; 9];
+    write(&mut out, at, f);
+    f.read(&out, at);
 }
 
 fn ue_values(at: usize) {
-    ue_and_back(at, 0);
-    ue_and_back(at, 1);
-    ue_and_back(at, 2);
-    ue_and_back(at, 2147483646);
-    ue_and_back(at, 2147483647);
-    ue_and_back(at, 4294967294);
+    for v in [0, 1, 2, 2147483646, 2147483647, 4294967294] {
+        and_back(at, Field::Ue(v));
+    }
 }
 
 fn se_values(at: usize) {
-    se_and_back(at, 0);
-    se_and_back(at, 1);
-    se_and_back(at, -1);
-    se_and_back(at, 2);
-    se_and_back(at, -2);
-    se_and_back(at, 2147483647);
-    se_and_back(at, -2147483647);
+    for v in [0, 1, -1, 2, -2, 2147483647, -2147483647] {
+        and_back(at, Field::Se(v));
+    }
 }
 
 fn value_cases() {
@@ -197,23 +164,16 @@ fn value_cases() {
 }
 
 fn trailing_cases() {
-    write_into(2, 0, Field::Trailing);
-    write_into(2, 1, Field::Trailing);
-    write_into(2, 2, Field::Trailing);
-    write_into(2, 3, Field::Trailing);
-    write_into(2, 4, Field::Trailing);
-    write_into(2, 5, Field::Trailing);
-    write_into(2, 6, Field::Trailing);
-    write_into(2, 7, Field::Trailing);
+    for at in 0..8 {
+        write_into(2, at, Field::Trailing);
+    }
 }
 
 pub fn run() {
     width_cases();
     wide_value_cases();
     start_cases();
-    far_bits(0xFFFFFFFF, 32);
-    far_bits(1, 33);
-    far_trailing();
+    far_cases();
     room_cases();
     order_cases();
     value_cases();

@@ -6,35 +6,31 @@ use aps_table::places::new_table;
 use aps_table::table::take_stream;
 use bitstream::Refusal;
 
+// By the toolchain's crate `io`, whose calls answer no error: a refusal is all that `main` tells.
+// sets_text writes the same to standard output: a crate for both would be longer.
 fn refused(why: Refusal) {
     io::write_all(2, b"refused ");
     io::print_decimal(2, u32::from(why) as u64);
     io::write_all(2, b"\n");
 }
 
-// The bytes that an answer counts.
-fn put(size: Result<usize, Refusal>, out: &[u8]) {
-    match size {
-        Ok(n) => {
-            if n <= out.len() {
-                io::write_all(1, &out[..n]);
-            }
-        }
-        Err(why) => refused(why),
-    }
+// The list at a cut after the stream, at the start of `out`, and its length: no heap is used.
+fn list_after(stream: &[u8], out: &mut [u8]) -> Result<usize, Refusal> {
+    let mut work = io::large_buffer();
+    let mut table = new_table();
+    take_stream(&mut table, stream, &mut work)?;
+    write_list(&table, out)
 }
 
 fn main() {
+    // A fixed buffer and how much was read: no heap is used.
     // One byte more than the longest stream, so that a longer one is seen to be longer.
     let mut input = [0u8; 65537];
     let n = io::read_full(0, &mut input);
-    let mut work = io::large_buffer();
-    let mut table = new_table();
     let mut out = [0u8; LIST_BYTES];
-    match take_stream(&mut table, &input[..n], &mut work) {
-        Ok(_) => {
-            let size = write_list(&table, &mut out);
-            put(size, &out);
+    match list_after(&input[..n], &mut out) {
+        Ok(size) => {
+            io::write_all(1, &out[..size.min(out.len())]);
         }
         Err(why) => refused(why),
     }

@@ -8,33 +8,25 @@ ghost use Rattle.std.specs.Prelude.{◌<◌, ◌≤◌, length};
 ghost use Rattle.io.specs.Counts.{IsPrefixLen};
 
 use crate::print::{number, runs, text};
-use crate::write::change;
-use aps_c::aps_parse_rbsp;
+use aps_c::{NUMBERS, aps_parse_rbsp};
 
-// The value of a hexadecimal digit.
+// The value of a hexadecimal digit; std's to_digit gives none for another character, which has some value here.
 fn digit(c: u8) -> u8
     ensures { result < 16 }
 {
     if c < b'A' { c % 16 } else { (c % 16 + 9) % 16 }
 }
 
-fn least(a: usize, b: usize) -> usize
-    ensures { (result ≤ a) × (result ≤ b) }
-{
-    if a < b { a } else { b }
-}
-
 // The bytes that the digits stand for, as many as there is room for.
+// Into a lent buffer, with how many there are: no heap is used.
 fn decode(digits: &[u8], out: &mut [u8]) -> usize
     ensures { IsPrefixLen result out.new }
 {
-    let n = least(digits.len() / 2, out.len());
-    let mut i = 0;
-    while i < n {
-        out[i] = digit(digits[2 * i]) * 16 + digit(digits[2 * i + 1]);
-        i += 1;
+    let (pairs, _) = digits.as_chunks::<2>();
+    for (byte, &[high, low]) in out.iter_mut().zip(pairs) {
+        *byte = digit(high) * 16 + digit(low);
     }
-    n
+    pairs.len().min(out.len())
 }
 
 // The first c from `at` on, or the end.
@@ -42,18 +34,15 @@ fn find(s: &[u8], at: usize, c: u8) -> usize
     requires { at ≤ length s.now }
     ensures { (at ≤ result) × (result ≤ length s.now) }
 {
-    let mut i = at;
-    while i < s.len() {
-        if s[i] == c {
-            return i;
-        }
-        i += 1;
-    }
-    i
+    s[at..]
+        .iter()
+        .position(|&b| b == c)
+        .map_or(s.len(), |i| at + i)
 }
 
+// A number and lent arrays in place of a Result: aps_c answers as C's calls do.
 fn answer(rbsp: &[u8]) {
-    let mut set = [0i64; 3122];
+    let mut set = [0i64; NUMBERS];
     let mut end = [0u64; 1];
     let code = aps_parse_rbsp(rbsp, &mut set, &mut end);
     if code == 0 {
@@ -70,13 +59,13 @@ fn answer(rbsp: &[u8]) {
 fn decoded(digits: &[u8], changed: &[u8]) {
     let mut rbsp = io::buffer();
     let n = decode(digits, &mut rbsp);
-    if changed.len() == 0 {
+    if changed.is_empty() {
         answer(&rbsp[..n]);
         return;
     }
     let mut bytes = [0u8; 9];
     let m = decode(changed, &mut bytes);
-    change(&rbsp[..n], &bytes[..m]);
+    write::answer(&rbsp[..n], &bytes[..m]);
 }
 
 // A name, a colon, a space and digits; then a change of one number and the room to write into, or nothing.
@@ -87,25 +76,16 @@ fn line(s: &[u8]) {
     }
     let digits = colon + 2;
     let space = find(s, digits, b' ');
-    let changed = least(space + 1, s.len());
+    let changed = (space + 1).min(s.len());
     text(&s[..digits]);
     decoded(&s[digits..space], &s[changed..]);
 }
 
-fn lines(s: &[u8]) {
-    let mut at = 0;
-    while at < s.len() {
-        let end = find(s, at, b'\n');
-        line(&s[at..end]);
-        if end == s.len() {
-            return;
-        }
-        at = end + 1;
-    }
-}
-
 fn main() {
+    // A fixed buffer and how much was read: no heap is used.
     let mut input = io::large_buffer();
     let n = io::read_full(0, &mut input);
-    lines(&input[..n]);
+    for s in input[..n].split(|&b| b == b'\n') {
+        line(s);
+    }
 }

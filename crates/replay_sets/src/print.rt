@@ -1,19 +1,14 @@
 // Words, numbers and bytes to standard output.
+// The few calls that `boundaries` has too: a crate for both would be longer than they are.
+use aps_c::NUMBERS;
 
+// By the toolchain's crate `io`, whose calls answer no error: std's `println!` gives a Result, which every caller here would have to hand on.
 pub fn text(s: &[u8]) {
     io::write_all(1, s);
 }
 
 pub fn number(n: u64) {
     io::print_decimal(1, n);
-}
-
-// How far v is from 0; 0 for what no set holds.
-fn magnitude(v: i64) -> u64 {
-    if v < -2147483648 {
-        return 0;
-    }
-    if v < 0 { (-v) as u64 } else { v as u64 }
 }
 
 fn item(i: usize, first: bool, v: i64) {
@@ -27,34 +22,26 @@ fn item(i: usize, first: bool, v: i64) {
     } else {
         text(b" ");
     }
-    number(magnitude(v));
+    number(v.unsigned_abs());
 }
 
 // The numbers that are not 0, after the index of the first in a row.
-pub fn runs(numbers: &[i64; 3122]) {
+pub fn runs(numbers: &[i64; NUMBERS]) {
     let mut first = true;
-    let mut i: usize = 0;
-    while i < 3122 {
-        let v = numbers[i];
+    for (i, &v) in numbers.iter().enumerate() {
         if v != 0 {
             item(i, first, v);
         }
         first = v == 0;
-        i += 1;
     }
 }
 
-// The hexadecimal digit of a byte's lower half.
-fn hex_digit(v: u8) -> u8 {
-    let d = v % 16;
-    if d < 10 { b'0' + d } else { b'A' + (d - 10) }
-}
+// In capitals, where io's `print_hex` has small letters.
+const DIGITS: &[u8; 16] = b"0123456789ABCDEF";
 
 pub fn hexadecimal(s: &[u8]) {
-    let mut i = 0;
-    while i < s.len() {
-        let digits = [hex_digit(s[i] / 16), hex_digit(s[i])];
-        text(&digits);
-        i += 1;
+    for &b in s {
+        let b = b as usize;
+        text(&[DIGITS[b / 16], DIGITS[b % 16]]);
     }
 }

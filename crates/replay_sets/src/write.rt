@@ -1,43 +1,16 @@
 // A set with one of its numbers changed, written as an RBSP and as a unit.
-ghost use Rattle.std.specs.Prelude.{◌<◌, ◌≡◌, length};
-
-use crate::least;
 use crate::print::{hexadecimal, number, text};
-use aps_c::{aps_parse_rbsp, aps_write, aps_write_nal};
+use aps_c::{NUMBERS, aps_parse_rbsp, aps_write, aps_write_nal};
 
-// The bytes of an answer, or the refusal's number.
+// The bytes of an answer, or the refusal's number, as C's calls give them.
 fn answered(code: u32, out: &[u8], len: u64) {
     if code == 0 {
         number(len);
         text(b" bytes ");
-        let n = least(len as usize, out.len());
-        hexadecimal(&out[..n]);
+        hexadecimal(&out[..(len as usize).min(out.len())]);
     } else {
         text(b"refused ");
         number(code as u64);
-    }
-}
-
-// Two bytes as a number.
-fn pair(high: u8, low: u8) -> usize
-    ensures { result < 65536 }
-{
-    high as usize * 256 + low as usize
-}
-
-// A sign and four bytes as a number.
-fn signed(sign: u8, high: usize, low: usize) -> i64
-    requires { (high < 65536) × (low < 65536) }
-{
-    let magnitude = (high * 65536 + low) as i64;
-    if sign == 0 { magnitude } else { -magnitude }
-}
-
-fn put(set: &mut [i64; 3122], i: usize, value: i64)
-    ensures { length set.new ≡ length set.old }
-{
-    if i < 3122 {
-        set[i] = value;
     }
 }
 
@@ -53,32 +26,45 @@ fn both(set: &[i64], out: &mut [u8]) {
 
 fn within(set: &[i64], room: usize) {
     let mut out = io::buffer();
-    let n = least(room, 4096);
+    let n = room.min(out.len());
     both(set, &mut out[..n]);
 }
 
-fn changed(rbsp: &[u8], i: usize, value: i64, room: usize) {
-    let mut set = [0i64; 3122];
-    let mut end = [0u64; 1];
-    aps_parse_rbsp(rbsp, &mut set, &mut end);
-    put(&mut set, i, value);
-    within(&set, room);
+// A number of a set to change, and the room of the output.
+#[derive(Clone, Copy)]
+struct Change {
+    index: usize,
+    value: i64,
+    room: usize,
 }
 
-// An index, a sign, a magnitude and the room of the output, in 2, 1, 4 and 2 bytes.
-pub fn change(rbsp: &[u8], change: &[u8]) {
-    if change.len() < 9 {
-        return;
+impl Change {
+    // An index, a sign, a magnitude and the room, in 2, 1, 4 and 2 bytes.
+    fn read(bytes: &[u8]) -> Option<Change> {
+        let &[i0, i1, sign, m0, m1, m2, m3, r0, r1] = bytes else {
+            return None;
+        };
+        let magnitude = i64::from(u32::from_be_bytes([m0, m1, m2, m3]));
+        Some(Change {
+            index: usize::from(u16::from_be_bytes([i0, i1])),
+            value: if sign == 0 { magnitude } else { -magnitude },
+            room: usize::from(u16::from_be_bytes([r0, r1])),
+        })
     }
-    let value = signed(
-        change[2],
-        pair(change[3], change[4]),
-        pair(change[5], change[6]),
-    );
-    changed(
-        rbsp,
-        pair(change[0], change[1]),
-        value,
-        pair(change[7], change[8]),
-    );
+}
+
+fn changed(rbsp: &[u8], change: Change) {
+    let mut set = [0i64; NUMBERS];
+    let mut end = [0u64; 1];
+    aps_parse_rbsp(rbsp, &mut set, &mut end);
+    if let Some(number) = set.get_mut(change.index) {
+        *number = change.value;
+    }
+    within(&set, change.room);
+}
+
+pub fn answer(rbsp: &[u8], bytes: &[u8]) {
+    if let Some(change) = Change::read(bytes) {
+        changed(rbsp, change);
+    }
 }

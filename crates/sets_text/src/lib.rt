@@ -1,68 +1,77 @@
 // The sets that a stream leaves in a new table, as lines on standard output.
 #![tactic(auto)]
 
-ghost use Rattle.std.specs.Prelude.{◌≡◌, ◌<◌};
+ghost use Rattle.std.specs.Prelude.{◌≡◌};
+ghost use Rattle.aps_table.specs.Answers.{stream_answer};
 ghost use Rattle.aps_table.specs.Calls.{stream, answer_to};
-ghost use Rattle.sets_text.specs.Refused.{refused_with};
 
 use aps::aps::{Alf, ApsHead, Lmcs, Scaling};
 use aps_table::places::{Table, new_table};
-use aps_table::table::{lookup_head, take_stream};
+use aps_table::table::{Counts, lookup_head, take_stream};
+use bitstream::Refusal;
 
+// By the toolchain's crate `io`, whose calls answer no error: `print_sets` answers for every stream, where std's `println!` would give it an error of its own.
 fn text(s: &[u8]) {
     io::write_all(1, s);
 }
 
+fn number(n: u64) {
+    io::print_decimal(1, n);
+}
+
 fn flag(f: bool) {
-    if f {
-        text(b" 1");
-    } else {
-        text(b" 0");
-    }
+    text(b" ");
+    number(f.into());
 }
 
 // Kind, id, chroma flag and extension flag.
+// A kind goes by its number, as `lookup_head` takes it and as it is printed.
 fn print_set(kind: u8, id: u8, head: ApsHead) {
-    io::print_decimal(1, kind as u64);
+    number(kind.into());
     text(b" ");
-    io::print_decimal(1, id as u64);
+    number(id.into());
     flag(head.aps_chroma_present_flag);
     flag(head.aps_extension_flag);
     text(b"\n");
 }
 
-fn print_place(table: &Table, kind: u8, id: u8) {
-    if let Ok(head) = lookup_head(table, kind, id) {
-        print_set(kind, id, head);
-    }
-}
-
 fn print_kind(table: &Table, kind: u8, max_id: u8) {
     for id in 0..=max_id {
-        print_place(table, kind, id);
+        if let Ok(head) = lookup_head(table, kind, id) {
+            print_set(kind, id, head);
+        }
     }
 }
 
-// A header and each filled place, or `refused` and the number, which is the answer; 0 where nothing is refused.
-pub fn print_sets(bytes: &[u8]) -> u32
-    ensures { result ≡ refused_with (answer_to (stream bytes.now 65536)) }
+// A header and each filled place, or `refused` and the number; the stream's answer.
+pub fn print_sets(bytes: &[u8]) -> Result<Counts, Refusal>
+    ensures { stream_answer result ≡ answer_to (stream bytes.now 65536) }
 {
     let mut work = io::large_buffer();
     let mut table = new_table();
-    match take_stream(&mut table, bytes, &mut work) {
+    let answer = take_stream(&mut table, bytes, &mut work);
+    match answer {
         Ok(_) => {
             text(b"kind id chroma ext\n");
             print_kind(&table, Alf::NUMBER, Alf::MAX_ID);
             print_kind(&table, Lmcs::NUMBER, Lmcs::MAX_ID);
             print_kind(&table, Scaling::NUMBER, Scaling::MAX_ID);
-            0
         }
         Err(why) => {
-            let n = u32::from(why);
             text(b"refused ");
-            io::print_decimal(1, n as u64);
+            number(u32::from(why).into());
             text(b"\n");
-            n
         }
     }
+    answer
+}
+
+// The same of standard input.
+pub fn print_input() {
+    // A fixed buffer and how much was read: no heap is used.
+    // One byte more than the longest stream, so that a longer one is seen to be longer.
+    let mut input = [0u8; 65537];
+    let n = io::read_full(0, &mut input);
+    // A refusal is printed already.
+    let _ = print_sets(&input[..n]);
 }

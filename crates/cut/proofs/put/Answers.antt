@@ -1,7 +1,0 @@
--- `put`: as many bytes as the answer counts.
-use mathlib.Core.Path.{sym}
-use lib.Seq.{length-take-le}
-use Rattle.cut.proofs.put.Goals as goal
-
-pub slice_bounds-write_all-end : goal.slice_bounds-write_all-end
-slice_bounds-write_all-end c = sym (length-take-le _ _ c.if-n-out.true)
