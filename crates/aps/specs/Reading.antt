@@ -4,9 +4,6 @@ use Rattle.bitstream.specs.Outcome.{Outcome, value, refused, number}
 use Rattle.bitstream.specs.declared.Refusal.{Refusal}
 use Rattle.bitstream.specs.declared.Refusal.TheVariants.{Unsupported}
 use Rattle.aps.specs.ApsSyntax.{number_of}
-use Rattle.aps.specs.declared.alf.VvcAlfData.{VvcAlfData}
-use Rattle.aps.specs.declared.lmcs.VvcLmcsData.{VvcLmcsData}
-use Rattle.aps.specs.declared.scaling_list.VvcScalingListData.{VvcScalingListData}
 use Rattle.aps.specs.declared.aps.VvcAps.{VvcAps}
 use Rattle.aps.specs.declared.aps.Reading.{Reading}
 use Rattle.aps.specs.declared.aps.ApsHead.{ApsHead}
@@ -32,12 +29,6 @@ head_of a =
       aps_extension_flag = a.aps_extension_flag;
     }
 
--- a set with the arrays of one kind alone
-abbrev pub alf_part : VvcAps → ApsOf VvcAlfData
-alf_part a = record { head = head_of a; payload = a.alf }
-
-abbrev pub lmcs_part : VvcAps → ApsOf VvcLmcsData
-lmcs_part a = record { head = head_of a; payload = a.lmcs }
-
-abbrev pub scaling_part : VvcAps → ApsOf VvcScalingListData
-scaling_part a = record { head = head_of a; payload = a.scaling }
+-- a set with one part of it alone
+abbrev pub part_by : {P : Type 0} → (VvcAps → P) → VvcAps → ApsOf P
+part_by part a = record { head = head_of a; payload = part a }

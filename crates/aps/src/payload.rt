@@ -7,7 +7,7 @@ ghost use Rattle.aps.specs.Writing.{write_aps};
 ghost use Rattle.aps.specs.Payloads.{alike};
 ghost use Rattle.aps.specs.Inner.{Heading, Bare, Passes};
 ghost use Rattle.aps.specs.Rbsp.{read_rbsp, parse_aps_rbsp};
-ghost use Rattle.aps.specs.Reading.{outcome_reading, head_of};
+ghost use Rattle.aps.specs.Reading.{outcome_reading, head_of, part_by};
 ghost use Rattle.aps.specs.Reads.{filled};
 ghost use Rattle.aps.specs.Writes.{Wrote};
 ghost use Rattle.aps.specs.declared.aps.ApsHead.{ApsHead};
@@ -36,7 +36,7 @@ pub trait Payload: Copy {
 
     // A set out of its RBSP, and no other array; a set of another kind is told by its kind.
     fn parse_rbsp(bytes: &[u8]) -> Result<Reading<ApsOf<Self>>, Refusal>
-        ensures { outcome_reading result ≡ map_outcome (λ a. record { head = head_of a; payload = part a }) (parse_aps_rbsp bytes.now) };
+        ensures { outcome_reading result ≡ map_outcome (part_by part) (parse_aps_rbsp bytes.now) };
 
     // A set as an RBSP.
     fn write_rbsp(
