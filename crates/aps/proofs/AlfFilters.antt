@@ -17,12 +17,12 @@ use Rattle.aps.specs.AlfSyntax.{alternative, alternatives}
 use Rattle.aps.specs.AlfSyntax.{cc_coefficients}
 use Rattle.aps.specs.Writes.{Wrote}
 use Rattle.aps.specs.declared.writer.Writer.{Writer}
-use Rattle.aps.proofs.CodecLaws.{and_both}
 use Rattle.aps.proofs.AlfSteps.{index, row-test, sent-test}
 use Rattle.aps.proofs.PairLaws.{zipped-length}
 use Rattle.aps.proofs.WriterLaws.{wrote-when, wrote-via}
 use Rattle.aps.proofs.EntryWrites.{zipped-drop, zipped-take}
 use Rattle.aps.proofs.EntryWrites.{first_sent, sent-by, apart-wrote}
+use Rattle.std.proofs.lemmas.Bool.{and_from}
 
 module _ {before after : Writer} {r : Result (Unit {0}) Refusal} where
   -- ---- the indexes
@@ -108,4 +108,4 @@ pub alternatives-wrote : (clip : Bool) (count-1 : ℕ) (abs : List ℕ) (sign : 
 unfolding flat
 alternatives-wrote clip count-1 abs sign clips s t e w =
     let pairs : length (zipped abs sign) ≡ 48 = zipped-length abs sign (t ∙ sym s) ∙ s in
-    wrote-via _ _ _ (and_both (eqb (length (zipped abs sign)) 48) (eqb (length clips) 48) (eq-eqb (length (zipped abs sign)) 48 pairs) (eq-eqb (length clips) 48 e)) w
+    wrote-via _ _ _ (and_from (eqb (length (zipped abs sign)) 48) (eqb (length clips) 48) (eq-eqb (length (zipped abs sign)) 48 pairs) (eq-eqb (length clips) 48 e)) w

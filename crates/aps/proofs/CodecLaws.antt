@@ -12,6 +12,7 @@ use Rattle.bitstream.proofs.CodeLaws.{value-refused}
 use Rattle.bitstream.proofs.HoldLaws.{bits-append, holds-append, holds-join, holds-end}
 use Rattle.aps.specs.Codec.{Codec, ◌▷◌, via, judged, Inferred, when, provided, never}
 use Rattle.aps.proofs.Lawful.{Lawful, IsInferred}
+use Rattle.std.proofs.lemmas.Bool.{and_from}
 
 -- ---- what an answer and a test say
 
@@ -32,9 +33,6 @@ and_left false b e = e
 pub and_right : (a b : Bool) → (a && b) ≡ true → b ≡ true
 and_right true b e = e
 and_right false b e = never_true e
-
-pub and_both : (a b : Bool) → a ≡ true → b ≡ true → (a && b) ≡ true
-and_both a b e f = rw (e, f)
 
 -- ---- no bits
 
@@ -105,7 +103,7 @@ module _ {A B : Type 0} where
       sound s p x q e =
           let (r, ea, eb) = ▷-halves c k s p x q e in
           let oa = C.sound s p x.0 r ea in
-          and_both _ _ oa ((K x.0 oa).sound s r x.1 q eb)
+          and_from _ _ oa ((K x.0 oa).sound s r x.1 q eb)
 
       exact : (s : List ℕ) (p : ℕ) (x : A × B) (q : ℕ) → (c ▷ k).read s p ≡ value x q → Holds s p ((c ▷ k).emit x) × (q ≡ p + length ((c ▷ k).emit x))
       exact s p x q e =
@@ -145,7 +143,7 @@ module _ {A : Type 0} where
       record {
         sound = λ s p a q e.
             let (ea, et) = judged-value (c.read s p) test a q e in
-            and_both _ _ (C.sound s p a q ea) et;
+            and_from _ _ (C.sound s p a q ea) et;
         exact = λ s p a q e. C.exact s p a q (judged-value (c.read s p) test a q e).0;
         back = λ s p a o h. rw (C.back s p a (and_left (c.ok a) (test a) o) h, and_right (c.ok a) (test a) o);
         bits = λ a o. C.bits a (and_left (c.ok a) (test a) o);
@@ -228,7 +226,7 @@ module _ {A B : Type 0} (to : A → B) (from : B → A) (test : B → Bool) {c :
         sound = λ s p b q e.
             let (ea, eb) = shaped s p b q e in
             let o = C.sound s p (from b) q ea in
-            and_both (c.ok (from b)) (test b) o (rw eb at (there (from b) o).1);
+            and_from (c.ok (from b)) (test b) o (rw eb at (there (from b) o).1);
         exact = λ s p b q e. C.exact s p (from b) q (shaped s p b q e).0;
         back = λ s p b o h.
             let ob = and_left (c.ok (from b)) (test b) o in

@@ -11,7 +11,8 @@ use Rattle.bitstream.specs.Bits.{Holds, AreBits}
 use Rattle.bitstream.proofs.HoldLaws.{bits-append, holds-append, holds-join}
 use Rattle.aps.specs.Codec.{Codec, nil_ok, cons_ok, cons_emit, each_from, each}
 use Rattle.aps.proofs.Lawful.{Lawful, total}
-use Rattle.aps.proofs.CodecLaws.{then-value, never_true, and_left, and_right, and_both, holds-none, bits_none}
+use Rattle.aps.proofs.CodecLaws.{then-value, never_true, and_left, and_right, holds-none, bits_none}
+use Rattle.std.proofs.lemmas.Bool.{and_from}
 
 -- ---- one value, then the others
 
@@ -61,7 +62,7 @@ module _ {A : Type 0} (c : Codec A) (cs : Codec (List A)) where
         record {
           sound = λ s p l q e.
               let (x, xs, r, el, ea, eb) = cons-value s p l q e in
-              rw el (and_both _ _ (C.sound s p x r ea) (CS.sound s r xs q eb));
+              rw el (and_from _ _ (C.sound s p x r ea) (CS.sound s r xs q eb));
           exact = λ s p l q e.
               let (x, xs, r, el, ea, eb) = cons-value s p l q e in
               let (ha, na) = C.exact s p x r ea in

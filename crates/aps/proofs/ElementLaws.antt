@@ -18,8 +18,9 @@ use Rattle.aps.specs.Elements.{flag, ue_to, se, no_flag, no_number, no_pair, sig
 use Rattle.aps.proofs.Lawful.{Lawful, IsInferred}
 use Rattle.aps.proofs.FieldLaws.{u-law, ue-law}
 use Rattle.aps.proofs.PairLaws.{zipped-there, length-firsts, length-seconds, firsts-zipped, seconds-zipped}
-use Rattle.aps.proofs.CodecLaws.{never_true, and_left, and_right, and_both, ▷-law, judged-law, when-law, via-law, bound-law}
+use Rattle.aps.proofs.CodecLaws.{never_true, and_left, and_right, ▷-law, judged-law, when-law, via-law, bound-law}
 use Rattle.aps.proofs.EachLaws.{each-length}
+use Rattle.std.proofs.lemmas.Bool.{and_from}
 
 -- a flag is one bit
 pub flag-law : Lawful flag 1
@@ -133,7 +134,7 @@ module _ {A : Type 0} where
   pub no_list-is : (n : ℕ) {d : Inferred A} → IsInferred d → IsInferred (no_list n d)
   no_list-is n {d} D =
       record {
-        itself = and_both (eqb (length (replicate n d.default)) n) (every d.is (replicate n d.default))
+        itself = and_from (eqb (length (replicate n d.default)) n) (every d.is (replicate n d.default))
             (eq-eqb (length (replicate n d.default)) n (length-replicate n d.default)) (every-replicate d.is n d.default D.itself);
         only = λ l e.
             let e₁ = eqb-true (length l) n (and_left (eqb (length l) n) (every d.is l) e) in
@@ -198,7 +199,7 @@ module _ {A B : Type 0} where
       let ja : length (joined (firsts l)) ≡ r * w = rw (← na) (length-joined w (firsts l) wa) in
       let jb : length (joined (seconds l)) ≡ r * w = rw (← nb) (length-joined w (seconds l) wb) in (
         rw (rows-joined r w (firsts l) na wa, rows-joined r w (seconds l) nb wb) (zipped-there l),
-        and_both (eqb (length (joined (firsts l))) (r * w)) (eqb (length (joined (seconds l))) (r * w))
+        and_from (eqb (length (joined (firsts l))) (r * w)) (eqb (length (joined (seconds l))) (r * w))
             (eq-eqb (length (joined (firsts l))) (r * w) ja) (eq-eqb (length (joined (seconds l))) (r * w) jb),
       ))
       (λ x o t.

@@ -1,6 +1,6 @@
 -- u(n) and ue(v) are lawful: a field that is read has all its bits in the input.
 use mathlib.Core.Path.{◌≡◌, refl, sym}
-use mathlib.Core.Bool.{Bool, true, false, ◌&&◌}
+use mathlib.Core.Bool.{Bool, true, false, and-false}
 use mathlib.Core.List.{List, [], ◌∷◌}
 use Prim.Native.Nat.{ℕ, zero, suc, ◌+◌, ◌*◌, ◌^◌, ◌≤◌, ◌<◌}
 use native.Mathlib.Nat.{mod-eq_of_lt}
@@ -27,10 +27,6 @@ unfolding whole
 whole-value true (value v' q') v q e = absurd (value-refused (sym e))
 whole-value false (value v' q') v q e = (refl, e)
 whole-value b (refused n) v q e = absurd (value-refused (sym e))
-
-and-false : (b : Bool) → (b && false) ≡ false
-and-false true = refl
-and-false false = refl
 
 module _ (s : List ℕ) (p : ℕ) where
   -- n bits that are not lacking end inside the input

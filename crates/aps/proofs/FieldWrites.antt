@@ -25,11 +25,11 @@ use Rattle.aps.specs.Elements.{flag, ue_to, se, se_in, signed}
 use Rattle.aps.specs.AlfSyntax.{coefficient}
 use Rattle.aps.specs.Writes.{writes, Wrote, unsent}
 use Rattle.aps.specs.declared.writer.Writer.{Writer}
-use Rattle.aps.proofs.CodecLaws.{and_both}
 use Rattle.aps.proofs.ElementLaws.{zeros-mono, ue-most, flag-most}
 use Rattle.aps.proofs.SignedLaws.{not_lt_z}
 use Rattle.aps.proofs.ScalingLaws.{se8-law, code-le}
 use Rattle.aps.proofs.WriterLaws.{writes-taken, wrote_as, wrote-via}
+use Rattle.std.proofs.lemmas.Bool.{and_from}
 
 -- where a field that the library below wrote ends
 pub field-end : {out out' : List ℕ} {p q : ℕ} → value out p ≡ value out' q → p ≡ q
@@ -76,7 +76,7 @@ ue-wrote out p v h l k =
 -- a value up to the most is taken
 pub ue_to-fits : (most v : ℕ) → most < 4294967295 → v ≤ most → (ue_to most).ok v ≡ true
 unfolding ue_to judged ue
-ue_to-fits most v h l = and_both (ltb v 4294967295) (leb v most) (lt-ltb v 4294967295 (omega arith)) (le-leb v most l)
+ue_to-fits most v h l = and_from (ltb v 4294967295) (leb v most) (lt-ltb v 4294967295 (omega arith)) (le-leb v most l)
 
 -- a value above the most is not
 pub ue_to-wide : (most v : ℕ) → most < v → (ue_to most).ok v ≡ false

@@ -2,7 +2,7 @@
 use mathlib.Core.Path.{◌≡◌, refl, sym, ◌∙◌}
 use mathlib.Core.Logic.{⊎_elim}
 use mathlib.Core.List.{List, [], ◌∷◌}
-use Prim.Native.Nat.{ℕ, zero, suc, ◌+◌, ◌*◌, ◌/◌, ◌≤◌, ◌<◌}
+use Prim.Native.Nat.{ℕ, suc, ◌+◌, ◌*◌, ◌/◌, ◌≤◌, ◌<◌}
 use native.Mathlib.Nat.{eq-or-lt_of_le}
 use native.Mathlib.Omega.{arith}
 use lib.ListN.{length, get_or, take, replicate, length-replicate}
@@ -11,7 +11,7 @@ use Rattle.bitstream.specs.Bits.{field_at, Holds, AreBits, pack}
 use Rattle.bitstream.proofs.FieldLaws.{field-byte}
 use Rattle.bitstream.proofs.KeepLaws.{Bytes, bytes-puts, puts-hold}
 use Rattle.bitstream.proofs.HoldLaws.{Same, field-same}
-use Rattle.bitstream.proofs.PackLaws.{length-pack}
+use Rattle.bitstream.proofs.PackLaws.{length-pack, zero-bytes}
 
 -- the same bits stand in both
 holds-both : (s t : List ℕ) (p : ℕ) (bs : List ℕ) → Holds s p bs → Holds t p bs → Same s t p (p + length bs)
@@ -22,11 +22,6 @@ holds-both s t p (b ∷ bs) h k i l m =
     (λ (e : p ≡ i). rw (← e) (k.1 ∙ sym h.1))
     (λ (n : p < i). holds-both s t (suc p) bs h.2 k.2 i n (omega arith))
     (eq-or-lt_of_le l)
-
-zero-bytes : (k : ℕ) → Bytes (replicate k 0)
-zero-bytes zero i = omega arith
-zero-bytes (suc k) zero = omega arith
-zero-bytes (suc k) (suc i) = zero-bytes k i
 
 module _ (bs : List ℕ) (ab : AreBits bs) where
   room : length bs ≤ length {A = ℕ} (replicate ((length bs + 7) / 8) 0) * 8

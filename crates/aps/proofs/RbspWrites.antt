@@ -3,11 +3,11 @@ use borrow.Author.Tests.{le-leb, lt-leb}
 use mathlib.Core.Path.{◌≡◌, refl, sym, ap, ◌∙◌}
 use mathlib.Core.Bool.{Bool, true, false, cond, and-false}
 use mathlib.Core.List.{List}
-use Prim.Native.Nat.{ℕ, zero, suc, ◌+◌, ◌-◌, ◌/◌, ◌%◌, ◌≤◌, ◌<◌}
+use Prim.Native.Nat.{ℕ, ◌+◌, ◌-◌, ◌/◌, ◌%◌, ◌≤◌, ◌<◌}
 use native.Mathlib.Nat.{zero-add}
 use native.Mathlib.Omega.{arith}
 use lib.Dec.{leb}
-use lib.ListN.{length, get_or, take, replicate}
+use lib.ListN.{length, take, replicate}
 use Rattle.std.proofs.Common.{Result, Ok, Err}
 use Rattle.std.proofs.lemmas.Result.{err_from_is_err_and}
 use Rattle.std.specs.Result.{IsErrAnd}
@@ -19,7 +19,7 @@ use Rattle.bitstream.specs.Writing.{write_trailing_at}
 use Rattle.bitstream.proofs.CodeLaws.{value-refused}
 use Rattle.bitstream.proofs.WriteLaws.{puts-append, length-trailing}
 use Rattle.bitstream.proofs.KeepLaws.{Bytes, length-puts, bytes-puts, puts-hold}
-use Rattle.bitstream.proofs.PackLaws.{length-pack}
+use Rattle.bitstream.proofs.PackLaws.{length-pack, zero-bytes}
 use Rattle.aps.specs.Kinds.{largest_id}
 use Rattle.aps.specs.Codec.{via, judged, provided}
 use Rattle.aps.specs.AlfSyntax.{alf}
@@ -81,12 +81,6 @@ unfolding from_aps
 extension-sent a e = ap (λ (x : ApsData). x.1.1.1.1) e
 
 -- ---- the RBSP
-
--- zeros are bytes
-zero-bytes : (n i : ℕ) → get_or (replicate n 0) i 0 < 256
-zero-bytes zero i = omega arith
-zero-bytes (suc n) zero = omega arith
-zero-bytes (suc n) (suc i) = zero-bytes n i
 
 -- what the exit of a `?` returns is the refusal that it met
 pub closed-exit : (r : Result (Unit {0}) Refusal) (why : Refusal) (after : Writer) {o : Outcome (List ℕ)} → IsErrAnd r (λ e. e ≡ why) → refused (number why) ≡ o → closed r after ≡ o

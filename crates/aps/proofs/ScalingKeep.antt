@@ -22,6 +22,7 @@ use Rattle.aps.proofs.KeepLaws.{length-filled}
 use Rattle.aps.proofs.ReaderLaws.{reads-via, Filling, filling-start, filling-more, filling-refused, filling-done}
 use Rattle.aps.proofs.ScalingSteps.{Short, id-short}
 use Rattle.aps.proofs.Steps.{via-read}
+use Rattle.std.proofs.lemmas.List.{take-replicate}
 
 -- ---- stores
 
@@ -53,11 +54,6 @@ module _ {A : Type 0} where
   sets_behind (x ∷ row) l vs i n e =
       let m : n + i ≡ suc (length row + i) = omega arith in
       rw m (sets-cons vs (row ++ l) x (length row + i) ∙ ap {B = List A} (λ t. x ∷ t) (sets_behind row l vs i (length row) refl))
-
-  take-replicate : (n m : ℕ) (x : A) → n ≤ m → take n (replicate m x) ≡ replicate n x
-  take-replicate zero m x h = refl
-  take-replicate (suc n) zero x h = absurd (omega arith)
-  take-replicate (suc n) (suc m) x h = ap {B = List A} (λ t. x ∷ t) (take-replicate n m x (omega arith))
 
   -- stores into a row of x
   sets-front : (vs : List A) (n m : ℕ) (x : A) (l : List A) → n ≤ m → length vs ≤ n → sets (replicate n x ++ l) 0 vs ≡ take n (vs ++ replicate m x) ++ l

@@ -10,7 +10,7 @@ use lib.Dec.{ltb, lit<}
 use lib.Count.{count_leading_zeros}
 use lib.IntN.{ℤ, pos, negsuc, ◌-ℤ◌}
 use lib.Signed.{lt_z}
-use lib.ListN.{length, get_or, take, drop}
+use lib.ListN.{length, take, drop}
 use lib.Seq.{drop-cons, drop-length, take-take}
 use mir.Syntax.{w32}
 use mir.Val.{SFits}
@@ -139,10 +139,6 @@ pub wrote-alone : {A B : Type 0} {c : Codec A} (d : Inferred B) (k : A → Codec
     → Wrote c a before after r → Wrote (c ▷ λ x. when false d (k x)) (a, b) before after r
 wrote-alone d k {a} (Ok x) e w = wrote-▷ _ w (wrote-unsent d (k a) refl (rw e))
 wrote-alone d k (Err why) e w = wrote-▷-first _ w
-
--- an entry of an array is the same whatever stands for one outside it
-pub get_or-any : {A : Type 0} (l : List A) (i : ℕ) (a b : A) → i < length l → get_or l i a ≡ get_or l i b
-get_or-any l i a b h = let e : get_or l i a ∷ drop (suc i) l ≡ get_or l i b ∷ drop (suc i) l = sym (drop-cons l i a h) ∙ drop-cons l i b h in cc
 
 -- with chroma each id is coded
 all_coded : (id : ℕ) → id_coded true id ≡ true

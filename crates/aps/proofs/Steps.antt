@@ -7,11 +7,12 @@ use native.Mathlib.Nat.{add-zero, suc-add, zero-add, sub-zero}
 use native.Mathlib.Numerals.{add-one}
 use native.Mathlib.Omega.{arith}
 use lib.ListN.{length, get_or, take, drop, set, replicate, length-set, length-replicate, take-append-drop}
-use lib.Seq.{take-suc, take-suc-set, drop-set-lt, drop-drop, length-take-le, take_at, drop_at}
+use lib.Seq.{take-suc-set, drop-set-lt, drop-drop, length-take-le, take_at, drop_at}
 use Rattle.bitstream.specs.Outcome.{Outcome, value, refused, map_outcome, ◌then◌}
 use Rattle.aps.specs.Elements.{firsts, seconds, zipped, apart}
 use Rattle.aps.proofs.PairLaws.{firsts-zipped, seconds-zipped}
 use Rattle.aps.specs.Codec.{Codec, via, judged, Inferred, when, each_from, each}
+use Rattle.std.proofs.lemmas.List.{take_more, replicate-append-replicate}
 
 module _ {A : Type 0} where
   pub judged-read : (test : A → Bool) (c : Codec A) (s : List ℕ) (p : ℕ)
@@ -116,10 +117,6 @@ module _ {A : Type 0} (k : ℕ → Codec A) where
       let f : suc i + n ≡ i + suc n = omega arith in
       rw (suc-add n m, each-ok (suc i) n m xs ys (omega arith), f) (sym (and_assoc ((k i).ok x) ((each_from (suc i) n k).ok xs) ((each_from (i + suc n) m k).ok ys)))
 
-replicate-add : {A : Type 0} (n m : ℕ) (v : A) → replicate (n + m) v ≡ replicate n v ++ replicate m v
-replicate-add zero m v = rw (zero-add m)
-replicate-add (suc n) m v = rw (suc-add n m, replicate-add n m v)
-
 -- A loop that fills an array: entries below i are read, the rest are v as at first. The loop's invariant holds it for its array a and its position q.
 pub record Reading {A : Type 0} (k : ℕ → Codec A) (N : ℕ) (v : A) (s : List ℕ) (p i : ℕ) (a : List A) (q : ℕ) : Type 0 where
   pub so_far : (each_from 0 i k).read s p ≡ value (take i a) q
@@ -135,7 +132,7 @@ module _ {A : Type 0} (k : ℕ → Codec A) (N : ℕ) (v : A) (s : List ℕ) (p 
   pub reading-from : (i : ℕ) → i ≤ N → ((j : ℕ) → j < i → (k j).read s p ≡ value v p) → Reading k N v s p i (replicate N v) p
   reading-from i h f =
       let m : i + (N - i) ≡ N = omega arith in
-      let w : replicate N v ≡ replicate i v ++ replicate (N - i) v = ap (λ (n : ℕ). replicate n v) (sym m) ∙ replicate-add i (N - i) v in
+      let w : replicate N v ≡ replicate i v ++ replicate (N - i) v = ap (λ (n : ℕ). replicate n v) (sym m) ∙ sym (replicate-append-replicate i (N - i) v) in
       record {
         so_far = each-absent k 0 i v s p (λ j a b. f j (rw (zero-add i) at b)) ∙ ap (λ (l : List A). value l p) (rw w (sym (take_at (replicate i v) (replicate (N - i) v) i (length-replicate i v))));
         rest = rw w (drop_at (replicate i v) (replicate (N - i) v) i (length-replicate i v));
@@ -218,12 +215,9 @@ module _ {A B : Type 0} (k : ℕ → Codec (A × B)) (N : ℕ) (v : A) (w : B) (
 
 -- A loop that writes an array, or judges it: entries below i are taken. The bits written so far are `emit (take i a)`.
 module _ {A : Type 0} (k : ℕ → Codec A) (d : A) (a : List A) (i : ℕ) (h : i < length a) where
-  take_more : take (i + 1) a ≡ take i a ++ get_or a i d ∷ []
-  take_more = rw (add-one i) (take-suc a i d h)
-
   taken : length (take i a) ≡ i
   taken = length-take-le i a (omega arith)
 
   pub writing_more : (each_from 0 (i + 1) k).emit (take (i + 1) a) ≡ (each_from 0 i k).emit (take i a) ++ (k i).emit (get_or a i d)
   unfolding each_from
-  writing_more = rw (take_more, each-emit k 0 i 1 (take i a) (get_or a i d ∷ []) taken, zero-add i, append-nil ((k i).emit (get_or a i d)))
+  writing_more = rw (take_more a i d h, each-emit k 0 i 1 (take i a) (get_or a i d ∷ []) taken, zero-add i, append-nil ((k i).emit (get_or a i d)))

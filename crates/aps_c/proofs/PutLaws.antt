@@ -1,6 +1,6 @@
 -- Numbers written into an array one after another.
 use Prim.Native.Nat.{ℕ, suc, ◌+◌, ◌<◌}
-use mathlib.Core.Path.{◌≡◌, refl, ap, ◌∙◌}
+use mathlib.Core.Path.{◌≡◌, refl, ◌∙◌}
 use mathlib.Core.Bool.{Bool, true, false}
 use mathlib.Core.List.{List, [], ◌∷◌, ◌++◌, map, map-append}
 use native.Mathlib.Omega.{arith}
@@ -18,10 +18,6 @@ module _ {A : Type 0} where
   sets-append l i (x ∷ xs) ys =
       let e : i + suc (length xs) ≡ suc i + length xs = omega arith in
       rw e (sets-append (set l i x) (suc i) xs ys)
-
-  pub map_same : (xs : List A) → map (λ x. x) xs ≡ xs
-  map_same [] = refl
-  map_same (x ∷ xs) = ap {B = List A} (λ l. x ∷ l) (map_same xs)
 
 -- two runs are one
 pub put_then : {before between after xs ys : List ℤ} {from mid next : ℕ} → Put before from xs between mid → Put between mid ys after next

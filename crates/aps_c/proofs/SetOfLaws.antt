@@ -1,7 +1,7 @@
 -- The numbers of the set that a list of numbers stands for are the list, where the fields can hold it.
 use Prim.Native.Nat.{ℕ, zero, suc, ◌+◌, ◌<◌, ◌≤◌}
 use mathlib.Core.Path.{◌≡◌, refl, sym, ap, ◌∙◌}
-use mathlib.Core.Bool.{Bool, true, ◌&&◌}
+use mathlib.Core.Bool.{true}
 use mathlib.Core.List.{List, [], ◌∷◌, ◌++◌, map}
 use native.Mathlib.Omega.{arith}
 use borrow.Author.Tests.{eqb-true}
@@ -17,8 +17,9 @@ use Rattle.aps_c.specs.Numbers.{flag_number, naturals, flags, luma_numbers, chro
 use Rattle.aps_c.specs.SetOf.{between, part, natural, integer, truth, byte_at, word_at, flag_at, bytes_at, words_at, integers_at, flags_at}
 use Rattle.aps_c.specs.SetOf.{kind_of, luma_of, chroma_of, cc_of, alf_of, lmcs_of, scaling_of, set_of}
 use Rattle.aps_c.specs.SetOf.{all_in, fits_luma, fits_chroma, fits_cc, fits_alf, fits_lmcs, fits_scaling, fits_head, fits, is_set}
-use Rattle.aps_c.proofs.PutLaws.{map_same}
 use Rattle.aps_c.proofs.TakeLaws.{natural-in, natural-small, integer-in}
+use Rattle.std.proofs.lemmas.Bool.{and_parts as both}
+use Rattle.std.proofs.lemmas.List.{map-id}
 
 -- ---- one number
 
@@ -46,9 +47,6 @@ integer-back : (z : ℤ) → between (negsuc 2147483647) (pos 2147483647) z ≡ 
 integer-back z h = sym (integer-in z h)
 
 -- ---- parts of a list
-
-both : (a b : Bool) → (a && b) ≡ true → (a ≡ true) × (b ≡ true)
-both a b h = (and_left a b h, and_right a b h)
 
 part-split : (l : List ℤ) (i n m : ℕ) → part l i (n + m) ≡ part l i n ++ part l (i + n) m
 part-split l i n m = rw (take-add n m (drop i l), drop-drop n i l)
@@ -98,7 +96,7 @@ module _ (l : List ℤ) where
   truths i n h = many (λ b. pos (flag_number b)) truth (pos 0) (pos 1) truth-back l i n h
 
   integers : (i n : ℕ) → all_in (negsuc 2147483647) (pos 2147483647) l i n ≡ true → integers_at l i n ≡ part l i n
-  integers i n h = sym (map_same (map integer (part l i n))) ∙ many (λ z. z) integer (negsuc 2147483647) (pos 2147483647) integer-back l i n h
+  integers i n h = sym (map-id (map integer (part l i n))) ∙ many (λ z. z) integer (negsuc 2147483647) (pos 2147483647) integer-back l i n h
 
   byte : (i : ℕ) → i < length l → all_in (pos 0) (pos 255) l i 1 ≡ true → ◌≡◌ {A = List ℤ} (pos (byte_at l i) ∷ []) (part l i 1)
   byte i b h = one pos (natural 255) (pos 0) (pos 255) (natural-back 255) l i b h

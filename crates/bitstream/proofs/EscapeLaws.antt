@@ -9,13 +9,11 @@ use borrow.Author.Tests.{leb-true, leb-false, eqb-true, le-leb}
 use lib.Dec.{leb, eqb}
 use lib.ListN.{length, get_or}
 use Rattle.bitstream.specs.Escapes.{zero_run, zeros_at_end, cons_if, kept, escape_from, escape, unescape_from, unescape, Clean}
+use Rattle.std.proofs.lemmas.Bool.{and_parts}
 
 -- ---- the tests and the run of zero bytes
 
 -- where both hold the first does
-and_first : (s t : Bool) → (s && t) ≡ true → s ≡ true
-and_first true t e = refl
-and_first false t e = e
 
 -- an 03 is at most 03
 three-small : (z b : ℕ) → (leb 2 z && leb b 3) ≡ false → (leb 2 z && eqb b 3) ≡ false
@@ -64,7 +62,7 @@ unescape-escape z (b ∷ bs) = go (leb 2 z && leb b 3) refl (λ y. unescape-esca
   where
     go : (t : Bool) → (leb 2 z && leb b 3) ≡ t → ((y : ℕ) → unescape_from y (escape_from y bs) ≡ bs)
         → unescape_from z (cons_if t 3 (b ∷ escape_from (zero_run (kept t z) b) bs)) ≡ b ∷ bs
-    go true e ih = rw (and_first (leb 2 z) (leb b 3) e, ih (zero_run 0 b))
+    go true e ih = rw ((and_parts (leb 2 z) (leb b 3) e).0, ih (zero_run 0 b))
     go false e ih = rw (three-small z b e, ih (zero_run z b))
 
 -- removing the escapes that were put in gives the bytes back
@@ -163,7 +161,7 @@ escape-length z (b ∷ bs) = go (leb 2 z && leb b 3) refl (λ y. escape-length y
   where
     go : (t : Bool) → (leb 2 z && leb b 3) ≡ t → ((y : ℕ) → 2 * length (escape_from y bs) ≤ 3 * length bs + y)
         → 2 * length (cons_if t 3 (b ∷ escape_from (zero_run (kept t z) b) bs)) ≤ 3 * suc (length bs) + z
-    go true e ih = omega (arith, ih (zero_run 0 b), zero_run-most 0 b, leb-true 2 z (and_first (leb 2 z) (leb b 3) e))
+    go true e ih = omega (arith, ih (zero_run 0 b), zero_run-most 0 b, leb-true 2 z ((and_parts (leb 2 z) (leb b 3) e).0))
     go false e ih = omega (arith, ih (zero_run z b), zero_run-most z b)
 
 -- no byte is added where escapes are removed

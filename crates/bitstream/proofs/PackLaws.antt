@@ -49,7 +49,8 @@ agree-puts xs ys p (b ∷ bs) kx ky ab hx hy a =
     (agree-puts (put_bit xs p b) (put_bit ys p b) (suc p) bs (rw (length-put xs p b) (omega arith)) (rw (length-put ys p b) (omega arith)) ab.1
     (bytes-put xs p b (omega arith) ab.0 hx) (bytes-put ys p b (omega arith) ab.0 hy) (agree-put xs ys p b (omega arith) (omega arith) hx hy a))
 
-zero-bytes : (k : ℕ) → Bytes (replicate k 0)
+-- zeros are bytes
+pub zero-bytes : (k : ℕ) → Bytes (replicate k 0)
 zero-bytes zero i = omega arith
 zero-bytes (suc k) zero = omega arith
 zero-bytes (suc k) (suc i) = zero-bytes k i

@@ -1,7 +1,6 @@
 -- The bit after a se that was read fits an i64: the start is at most bit 1,048,576, and a code has at most 63 bits.
-use Prim.Native.Nat.{ℕ, ◌+◌, ◌*◌, ◌≤◌}
+use Prim.Native.Nat.{ℕ, ◌+◌, ◌*◌}
 use mathlib.Core.Path.{◌≡◌, refl}
-use mathlib.Core.Bool.{Bool, true, false, cond}
 use mathlib.Core.List.{List}
 use native.Mathlib.Omega.{arith}
 use lib.Dec.{ltb}
@@ -12,17 +11,14 @@ use Rattle.bitstream.specs.Reading.{ue_at, se_at}
 use Rattle.bitstream.proofs.CodeLaws.{ue-value}
 use Rattle.bitstream.proofs.CallLaws.{within-value, se-of-ue}
 use Rattle.bitstream_c.specs.Codes.{PlaceFits}
-
-one_more : (n : ℕ) (b : Bool) → cond b (n + 1) n ≤ n + 1
-one_more n true = omega arith
-one_more n false = omega arith
+use Rattle.bitstream.proofs.EscapeTurns.{cond-most}
 
 ue-fits : (s : List ℕ) (p : ℕ) (o : Outcome ℕ) → o ≡ ue_at s p → PlaceFits o
 unfolding ue_at suffix_at PlaceFits
 ue-fits s p (value v q) e =
     let h = within-value s p (read_ue s p) e in
     let r = ue-value s p h.2 in
-    omega (arith, h.1, r.0, r.2, one_more (p + zeros_at s p 32) (ltb (p + zeros_at s p 32) (length s * 8)))
+    omega (arith, h.1, r.0, r.2, cond-most (ltb (p + zeros_at s p 32) (length s * 8)) (p + zeros_at s p 32))
 ue-fits s p (refused n) e = tt
 
 map-fits : {A B : Type 0} (f : A → B) (o : Outcome A) → PlaceFits o → PlaceFits (map_outcome f o)

@@ -19,8 +19,6 @@ returns-in-Ok-Passed-clause-code c =
     let e : c.take_unit.result ≡ Ok Unit.Passed = search rules in
     ap answer_code (sym (ap unit_answer e) ∙ c.take_unit.ensures.answer)
 
-pub returns-in-Err : goal.returns-in-Err
+pub returns-in-Err-clause-code : goal.returns-in-Err-clause-code
 unfolding answer_code
-returns-in-Err c =
-    let t = c.take_unit.ensures in
-    record { code = c.into.ensures ∙ ap answer_code (sym (ap unit_answer c.in-Err.is) ∙ t.answer); table = t.table; work = t.work }
+returns-in-Err-clause-code c = c.into.ensures ∙ ap answer_code (sym (ap unit_answer c.in-Err.is) ∙ c.take_unit.ensures.answer)
