@@ -8,7 +8,7 @@ ghost use Rattle.bitstream.specs.Reading.{u_at, u_lacking, ue_at, ue_lacking, se
 
 use crate::Refusal;
 use crate::place::{Place, bits};
-use crate::short_codes::CodeTable;
+use crate::short_codes::short_code;
 use crate::window::{Code, code_in, window_alone};
 
 // A position in a byte slice, as a bit.
@@ -161,8 +161,7 @@ impl BitReader {
         ensures lacking { is_lacking result ≡ ue_lacking bytes.now self.bit_pos }
     {
         let place = Place::new(bytes, self.bit_pos)?;
-        let codes = CodeTable::new();
-        ue_of(place, codes.code(window_alone(bytes, self.bit_pos)))
+        ue_of(place, short_code(window_alone(bytes, self.bit_pos)))
     }
 
     // se(v), a short one by the table.

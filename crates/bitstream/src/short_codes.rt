@@ -4,8 +4,8 @@ ghost use Rattle.bitstream.specs.Windows.{ShortCodes, code_by, code_in, found};
 
 use crate::window::{Code, code_in};
 
-// 1 KB: entries of Option<Code> would be 12 KB, made anew for each set. For each value of the next nine bits 16 times the value of the ue that they begin with, and its bits; 0 where it is longer.
-pub const SHORT_CODES: [u16; 512] = [
+// 1 KB, where entries of Option<Code> would be 12 KB. For each value of the next nine bits 16 times the value of the ue that they begin with, and its bits; 0 where it is longer.
+pub static SHORT_CODES: [u16; 512] = [
     0, 0, 0, 0, 0, 0, 0, 0, 0, 0, 0, 0, 0, 0, 0, 0, 249, 265, 281, 297, 313, 329, 345, 361, 377,
     393, 409, 425, 441, 457, 473, 489, 119, 119, 119, 119, 135, 135, 135, 135, 151, 151, 151, 151,
     167, 167, 167, 167, 183, 183, 183, 183, 199, 199, 199, 199, 215, 215, 215, 215, 231, 231, 231,
@@ -28,33 +28,11 @@ pub const SHORT_CODES: [u16; 512] = [
     1, 1, 1, 1, 1, 1, 1, 1,
 ];
 
-// The table, which keeps its rule: a constant is made anew at each use, so it is made once and lent.
-#[derive(Clone, Copy)]
-pub struct CodeTable {
-    entries: [u16; 512],
-    ghost rule: { ShortCodes entries },
-}
-
-impl CodeTable {
-    pub fn new() -> Self {
-        CodeTable {
-            entries: short_codes(),
-        }
-    }
-
-    // The ue at the start of a word, if it has at most 8 zeros.
-    pub fn code(&self, w: u64) -> Option<Code>
-        ensures { found result ≡ code_in w }
-    {
-        code_by_table(&self.entries, w)
-    }
-}
-
 // The table with its rule.
-pub fn short_codes() -> [u16; 512]
-    ensures { ShortCodes result }
+pub fn short_codes() -> &'static [u16; 512]
+    ensures { ShortCodes result.now }
 {
-    SHORT_CODES
+    &SHORT_CODES
 }
 
 // What a table says of the ue at the start of a word; a marked one is found by its zeros.
@@ -69,4 +47,12 @@ pub fn code_by_table(codes: &[u16; 512], w: u64) -> Option<Code>
         value: (e / 16) as u32,
         bits: e as u64 % 16,
     })
+}
+
+// The ue at the start of a word, if it has at most 8 zeros, by the table.
+#[inline(always)]
+pub fn short_code(w: u64) -> Option<Code>
+    ensures { found result ≡ code_in w }
+{
+    code_by_table(short_codes(), w)
 }
