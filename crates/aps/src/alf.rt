@@ -8,7 +8,6 @@ use crate::alf_chroma::{read_cc, read_chroma};
 use crate::alf_luma::read_luma;
 use crate::reader::Reader;
 use bitstream::Refusal;
-use bitstream::short_codes::CodeTable;
 
 // Luma filters: row r of the flat arrays is at 12 * r. In this order of fields there is no gap to copy.
 #[derive(Clone, Copy)]
@@ -137,11 +136,10 @@ fn read_alf_filters(reader: &mut Reader, d: &mut VvcAlfData) -> Result<(), Refus
     if !is_any(luma, chroma, cb, cr) {
         return Ok(());
     }
-    let codes = CodeTable::new();
-    read_luma(reader, &codes, luma, &mut d.luma)?;
-    read_chroma(reader, &codes, chroma, &mut d.chroma)?;
-    read_cc(reader, &codes, cb, &mut d.cc_cb)?;
-    read_cc(reader, &codes, cr, &mut d.cc_cr)?;
+    read_luma(reader, luma, &mut d.luma)?;
+    read_chroma(reader, chroma, &mut d.chroma)?;
+    read_cc(reader, cb, &mut d.cc_cb)?;
+    read_cc(reader, cr, &mut d.cc_cr)?;
     Ok(())
 }
 

@@ -9,12 +9,10 @@ use crate::alf::{VvcAlfCcFilters, VvcAlfChroma};
 use crate::alf_fields::{clips_sent, read_clips, read_coefficients};
 use crate::reader::Reader;
 use bitstream::Refusal;
-use bitstream::short_codes::CodeTable;
 
 // One alternative: its coefficients, and at once its clips. Those that are sent are read alike, whichever it is and however many there are.
 fn read_alternative(
     reader: &mut Reader,
-    codes: &CodeTable,
     clip: bool,
     abs: &mut [u32],
     sign: &mut [bool],
@@ -23,7 +21,7 @@ fn read_alternative(
     requires { (abs.old ≡ replicate 6 0) × (sign.old ≡ replicate 6 false) × (clips.old ≡ replicate 6 0) }
     ensures { Reads (alternative clip 0 0) (filled result (zipped abs.new sign.new, clips.new) reader.new.at) reader.old reader.new }
 {
-    read_coefficients(reader, codes, 6, abs, sign)?;
+    read_coefficients(reader, 6, abs, sign)?;
     read_clips(reader, clips_sent(clip, 1), clips)?;
     Ok(())
 }
@@ -31,7 +29,6 @@ fn read_alternative(
 // The alternatives, one after another: each is a row of the arrays.
 fn read_alternatives(
     reader: &mut Reader,
-    codes: &CodeTable,
     clip: bool,
     count_minus1: u32,
     abs: &mut [u32; 48],
@@ -46,7 +43,6 @@ fn read_alternatives(
         let i = 6 * row;
         read_alternative(
             reader,
-            codes,
             clip,
             &mut abs[i..i + 6],
             &mut sign[i..i + 6],
@@ -59,7 +55,6 @@ fn read_alternatives(
 // The chroma filters, if they are signalled.
 pub(crate) fn read_chroma(
     reader: &mut Reader,
-    codes: &CodeTable,
     signal: bool,
     filters: &mut VvcAlfChroma,
 ) -> Result<(), Refusal>
@@ -70,12 +65,11 @@ pub(crate) fn read_chroma(
         return Ok(());
     }
     let clip = reader.flag()?;
-    let count_minus1 = reader.ue_to(codes, 7)?;
+    let count_minus1 = reader.ue_to(7)?;
     filters.alf_chroma_clip_flag = clip;
     filters.alf_chroma_num_alt_filters_minus1 = count_minus1;
     read_alternatives(
         reader,
-        codes,
         clip,
         count_minus1,
         &mut filters.coeff_abs,
@@ -108,7 +102,6 @@ fn read_cc_coefficients(
 // The filters of Cb or Cr, if they are signalled.
 pub(crate) fn read_cc(
     reader: &mut Reader,
-    codes: &CodeTable,
     signal: bool,
     filters: &mut VvcAlfCcFilters,
 ) -> Result<(), Refusal>
@@ -118,7 +111,7 @@ pub(crate) fn read_cc(
     if !signal {
         return Ok(());
     }
-    let count_minus1 = reader.ue_to(codes, 3)?;
+    let count_minus1 = reader.ue_to(3)?;
     filters.filters_signalled_minus1 = count_minus1;
     read_cc_coefficients(
         reader,

@@ -9,7 +9,6 @@ ghost use Rattle.aps.specs.Inner.{six_of};
 
 use crate::reader::Reader;
 use bitstream::Refusal;
-use bitstream::short_codes::CodeTable;
 
 // Ceil( Log2( x ) ).
 pub(crate) fn ceil_log2(x: u32) -> u32
@@ -24,7 +23,6 @@ pub(crate) fn ceil_log2(x: u32) -> u32
 // The first n coefficients of two arrays of zeros.
 pub(crate) fn read_coefficients(
     reader: &mut Reader,
-    codes: &CodeTable,
     n: usize,
     abs: &mut [u32],
     sign: &mut [bool],
@@ -35,7 +33,7 @@ pub(crate) fn read_coefficients(
 {
     let mut held = *reader;
     for i in 0..n {
-        let (a, s) = held.coefficient(codes)?;
+        let (a, s) = held.coefficient()?;
         abs[i] = a;
         sign[i] = s;
     }

@@ -7,7 +7,6 @@ use crate::alf::VvcAlfLuma;
 use crate::alf_fields::{ceil_log2, clips_sent, read_clips, read_coefficients};
 use crate::reader::Reader;
 use bitstream::Refusal;
-use bitstream::short_codes::CodeTable;
 
 // The 25 indexes, each at most count - 1, if there is more than one filter.
 fn read_indexes(
@@ -37,7 +36,6 @@ fn read_indexes(
 // The luma filters, if they are signalled.
 pub(crate) fn read_luma(
     reader: &mut Reader,
-    codes: &CodeTable,
     signal: bool,
     filters: &mut VvcAlfLuma,
 ) -> Result<(), Refusal>
@@ -48,18 +46,12 @@ pub(crate) fn read_luma(
         return Ok(());
     }
     let clip = reader.flag()?;
-    let count_minus1 = reader.ue_to(codes, 24)?;
+    let count_minus1 = reader.ue_to(24)?;
     let n = 12 * (count_minus1 as usize + 1);
     filters.alf_luma_clip_flag = clip;
     filters.alf_luma_num_filters_signalled_minus1 = count_minus1;
     read_indexes(reader, count_minus1, &mut filters.alf_luma_coeff_delta_idx)?;
-    read_coefficients(
-        reader,
-        codes,
-        n,
-        &mut filters.coeff_abs,
-        &mut filters.coeff_sign,
-    )?;
+    read_coefficients(reader, n, &mut filters.coeff_abs, &mut filters.coeff_sign)?;
     let rows = clips_sent(clip, 2 * (count_minus1 as usize + 1));
     read_clips(reader, rows, &mut filters.clip_idx)?;
     Ok(())

@@ -4,7 +4,7 @@ ghost use Rattle.aps.specs.LmcsSyntax.{in_range, lmcs_head, lmcs_codewords, lmcs
 ghost use Rattle.aps.specs.ApsSyntax.{zero_lmcs};
 ghost use Rattle.aps.specs.Reads.{filled, Reads};
 
-use crate::reader::{ByZeros, Reader};
+use crate::reader::Reader;
 use bitstream::Refusal;
 
 #[derive(Clone, Copy)]
@@ -58,9 +58,9 @@ fn read_head(reader: &mut Reader, d: &mut VvcLmcsData) -> Result<(), Refusal>
     ensures others { (d.new.lmcs_delta_abs_cw ≡ d.old.lmcs_delta_abs_cw) × (d.new.lmcs_delta_sign_cw_flag ≡ d.old.lmcs_delta_sign_cw_flag)
         × (d.new.lmcs_delta_abs_crs ≡ d.old.lmcs_delta_abs_crs) × (d.new.lmcs_delta_sign_crs_flag ≡ d.old.lmcs_delta_sign_crs_flag) }
 {
-    let min = reader.ue_by(&ByZeros)?;
-    let max = reader.ue_by(&ByZeros)?;
-    let prec = reader.ue_by(&ByZeros)?;
+    let min = reader.ue()?;
+    let max = reader.ue()?;
+    let prec = reader.ue()?;
     if !in_range(min, max, prec) {
         return Err(Refusal::InvalidData);
     }
@@ -92,7 +92,7 @@ fn read_codewords(
     Ok(())
 }
 
-// lmcs_data(), into a record of zeros. Its three codes do not pay for a table.
+// lmcs_data(), into a record of zeros.
 pub(crate) fn parse_lmcs_data(
     reader: &mut Reader,
     chroma: bool,

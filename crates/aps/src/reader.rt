@@ -1,35 +1,12 @@
 // The fields of an input of at most 65,536 bytes, one after another.
 ghost use Rattle.std.specs.Prelude.{◌≡◌, false, cond, ◌+◌, ◌*◌, ◌≤◌, ◌<◌, eqb, ltb, nat_abs, length};
 ghost use Rattle.bitstream.specs.Fields.{se_value};
-ghost use Rattle.bitstream.specs.Windows.{IsWindow, code_in, found};
+ghost use Rattle.bitstream.specs.Windows.{IsWindow};
 
 use bitstream::bit_reader::BitReader;
-use bitstream::short_codes::CodeTable;
-use bitstream::window::{Code, code_in, window};
+use bitstream::short_codes::short_code;
+use bitstream::window::window;
 use bitstream::{Input, Refusal};
-
-// How the short code at the start of a word is found.
-pub(crate) trait Codes {
-    fn find(&self, w: u64) -> Option<Code>
-        ensures { found result ≡ code_in w };
-}
-
-impl Codes for CodeTable {
-    #[inline(always)]
-    fn find(&self, w: u64) -> Option<Code> {
-        self.code(w)
-    }
-}
-
-// By its zeros, where there are too few codes to pay for a table.
-pub(crate) struct ByZeros;
-
-impl Codes for ByZeros {
-    #[inline(always)]
-    fn find(&self, w: u64) -> Option<Code> {
-        code_in(w)
-    }
-}
 
 // The `left` highest of `bits` are the bits from bit `at` on, zeros past the end.
 #[derive(Clone, Copy)]
@@ -155,7 +132,7 @@ impl<'a> Reader<'a> {
 
     // ue(v), of any length.
     #[inline(always)]
-    pub(crate) fn ue(&mut self) -> Result<u32, Refusal>
+    fn long_ue(&mut self) -> Result<u32, Refusal>
         ensures { Reads ue (given result self.new.at) self.old self.new }
     {
         let field = (BitReader { bit_pos: self.at }).ue(self.bytes)?;
@@ -169,24 +146,24 @@ impl<'a> Reader<'a> {
 
     // ue(v), looked for among the short codes first.
     #[inline(always)]
-    pub(crate) fn ue_by<C: Codes>(&mut self, codes: &C) -> Result<u32, Refusal>
+    pub(crate) fn ue(&mut self) -> Result<u32, Refusal>
         ensures { Reads ue (given result self.new.at) self.old self.new }
     {
         self.fill(17);
-        if let Some(code) = codes.find(self.bits) {
+        if let Some(code) = short_code(self.bits) {
             if !self.lacks(code.bits) {
                 self.pass(code.bits, 17);
                 return Ok(code.value);
             }
         }
-        self.ue()
+        self.long_ue()
     }
 
     // ue(v) in 0..most.
-    pub(crate) fn ue_to(&mut self, codes: &CodeTable, most: u32) -> Result<u32, Refusal>
+    pub(crate) fn ue_to(&mut self, most: u32) -> Result<u32, Refusal>
         ensures { Reads (ue_to most) (given result self.new.at) self.old self.new }
     {
-        let value = self.ue_by(codes)?;
+        let value = self.ue()?;
         if most < value {
             return Err(Refusal::InvalidData);
         }
@@ -195,10 +172,10 @@ impl<'a> Reader<'a> {
 
     // se(v) in -128..127.
     #[inline(always)]
-    pub(crate) fn se8(&mut self, codes: &CodeTable) -> Result<i32, Refusal>
+    pub(crate) fn se8(&mut self) -> Result<i32, Refusal>
         ensures { Reads (se_in (negsuc 127) (pos 127)) (given result self.new.at) self.old self.new }
     {
-        let k = self.ue_by(codes)?;
+        let k = self.ue()?;
         if 254 < k && k != 256 {
             return Err(Refusal::InvalidData);
         }
@@ -218,12 +195,12 @@ impl<'a> Reader<'a> {
 
     // A magnitude in 0..128, and its sign if it is not 0: at most 17 bits and the sign, which is sent unless the first bit is 1.
     #[inline(always)]
-    pub(crate) fn coefficient(&mut self, codes: &CodeTable) -> Result<(u32, bool), Refusal>
+    pub(crate) fn coefficient(&mut self) -> Result<(u32, bool), Refusal>
         ensures { Reads coefficient (given result self.new.at) self.old self.new }
     {
         self.fill(18);
         let sent = 1 - (self.bits >> 63);
-        if let Some(code) = codes.code(self.bits) {
+        if let Some(code) = short_code(self.bits) {
             let size = code.bits;
             let abs = code.value;
             if abs <= 128 {
@@ -234,17 +211,17 @@ impl<'a> Reader<'a> {
                 }
             }
         }
-        let (field, next) = self.long_coefficient(codes)?;
+        let (field, next) = self.long_coefficient()?;
         *self = next;
         Ok(field)
     }
 
     // One that the word does not hold, or that is refused, and the reader after it.
     #[inline(never)]
-    fn long_coefficient(mut self, codes: &CodeTable) -> Result<((u32, bool), Self), Refusal>
+    fn long_coefficient(mut self) -> Result<((u32, bool), Self), Refusal>
         ensures { ReadsOn coefficient result self.entry }
     {
-        let abs = self.ue_to(codes, 128)?;
+        let abs = self.ue_to(128)?;
         if abs == 0 {
             return Ok(((abs, false), self));
         }

@@ -16,7 +16,7 @@ use Rattle.aps.proofs.reader.Reader.coefficient.Goals.{In-Some}
 
 -- the code that was found
 code : (c : In-Some) → Some (c.in-Some.code.value, c.in-Some.code.bits) ≡ code_in c.fill.new.self.bits
-code c = rw c.in-Some.is at c.code.ensures
+code c = rw c.in-Some.is at c.short_code.ensures
 
 -- it has at most 17 bits
 few : (c : In-Some) → c.in-Some.code.bits ≤ 17

@@ -1,39 +1,31 @@
--- `ue`: inside the limits the call reads what the syntax reads where no bit is lacking, and nothing is known of the bits after it.
-use Rattle.std.proofs.Common.{◌≡◌}
-use mathlib.Core.Path.{refl, sym, ◌∙◌}
+-- `ue`: a code that is found and that ends inside the input is what the syntax reads there.
+use mathlib.Core.Path.{◌≡◌, sym, ◌∙◌}
 use native.Mathlib.Omega.{arith}
-use Rattle.bitstream.specs.Outcome.{value}
-use Rattle.aps.specs.Codec.{ue}
-use Rattle.aps.proofs.CodecLaws.{inside}
-use Rattle.aps.proofs.FieldLaws.{ue-law}
-use Rattle.aps.proofs.FieldSteps.{ue-here, ue-lacking}
-use Rattle.aps.proofs.ReaderLaws.{no-window, reads-exit}
+use borrow.Author.Tests.{ltb-false}
+use Prim.Native.Nat.{◌≤◌}
+use Rattle.std.proofs.Common.{Some}
+use Rattle.bitstream.specs.Windows.{code_in}
+use Rattle.aps.proofs.ReaderLaws.{reads-from}
+use Rattle.aps.proofs.TableSteps.{table-bits, table-ue}
 use Rattle.aps.proofs.reader.Reader.ue.Goals as goal
-use Rattle.aps.proofs.reader.Reader.ue.Goals.{Else-field}
+use Rattle.aps.proofs.reader.Reader.ue.Goals.{In-Some}
 
--- the call reads what the syntax reads
-told : (c : Else-field) → value c.in_ok-field.field.value c.in_ok-field.field.next.bit_pos ≡ ue.read c.args.self.now.bytes.now c.args.self.now.at
-told c =
-    let w = c.args.self.now in
-    let k = c.in_ok-field.ensures in
-    k.field ∙ sym (ue-here w.bytes.now w.at w.short (omega (arith, w.short, w.inside)) (sym k.lacking ∙ c.if-field.false))
+-- the code that was found
+code : (c : In-Some) → Some (c.in-Some.code.value, c.in-Some.code.bits) ≡ code_in c.fill.new.self.bits
+code c = rw c.in-Some.is at c.short_code.ensures
 
-pub returns-in_err-field : goal.returns-in_err-field
-returns-in_err-field c =
-    let w = c.args.self.now in
-    let k = c.in_err-field.ensures in
-    reads-exit _ _ _ c.from_residual.ensures.1 (record { field = k.field ∙ sym (ue-here w.bytes.now w.at w.short (omega (arith, w.short, w.inside)) (sym k.lacking)); bytes = refl })
+-- it has at most 17 bits
+few : (c : In-Some) → c.in-Some.code.bits ≤ 17
+few c = table-bits c.fill.new.self.known (code c)
 
-pub returns-then-field : goal.returns-then-field
-returns-then-field c =
-    let w = c.args.self.now in
-    let e = sym c.in_ok-field.ensures.lacking ∙ c.if-field.true in
-    record { field = sym (ue-lacking w.bytes.now w.at w.short (omega (arith, w.short, w.inside)) e); bytes = refl }
+pub lacks-requires : goal.lacks-requires
+lacks-requires c = omega (arith, few c)
 
-pub invariant_of-self : goal.invariant_of-self
-invariant_of-self c =
-    let w = c.args.self.now in
-    record { short = w.short; inside = inside ue-law _ _ _ _ (sym (told (goal.at.invariant_of-self c).Else-field)) w.inside; known = no-window w.known.fits }
+pub pass-requires : goal.pass-requires
+pass-requires c =
+    (few (goal.at.pass-requires c).In-Some, c.fill.ensures.1, omega arith, ltb-false _ _ (sym c.lacks.ensures ∙ c.if-not-lacks.true))
 
-pub returns : goal.returns
-returns c = record { field = told (goal.at.returns c).Else-field; bytes = refl }
+pub returns-then-not-lacks : goal.returns-then-not-lacks
+returns-then-not-lacks c =
+    let e = table-ue c.fill.new.self.known (code (goal.at.returns-then-not-lacks c).In-Some) (omega (arith, c.fill.ensures.1)) (ltb-false _ _ (sym c.lacks.ensures ∙ c.if-not-lacks.true)) in
+    reads-from c.fill.ensures.0 (record { field = rw c.pass.ensures.1 (sym e); bytes = c.pass.ensures.0 })
