@@ -1,6 +1,6 @@
 -- The steps of alf_data( ), as its readers take them.
 use mathlib.Core.Path.{◌≡◌, refl, sym, ap}
-use mathlib.Core.Bool.{Bool, true, false, cond, ◌&&◌, ◌||◌}
+use mathlib.Core.Bool.{Bool, true, false, cond, ◌&&◌}
 use Prim.Native.Nat.{ℕ, ◌+◌, ◌*◌, ◌/◌, ◌≤◌, ◌<◌}
 use native.Mathlib.Nat.{mul_comm, div-lt_iff_lt-mul, le-div_iff_mul-le}
 use native.Mathlib.Omega.{arith}
@@ -21,7 +21,6 @@ use Rattle.aps.specs.declared.alf.VvcAlfChroma.{VvcAlfChroma}
 use Rattle.aps.specs.declared.alf.VvcAlfCcFilters.{VvcAlfCcFilters}
 use Rattle.aps.specs.declared.alf.VvcAlfData.{VvcAlfData}
 use Rattle.aps.specs.ApsSyntax.{zero_alf}
-use Rattle.aps.proofs.CodecLaws.{never_true}
 use Rattle.aps.proofs.EachLaws.{each_same}
 use Rattle.aps.proofs.ReaderLaws.{stays, reads-via, reads-sent, reads-unsent}
 
@@ -110,14 +109,6 @@ module _ {b : Bool} {w : Reader} (e : b ≡ false) where
 pub blank-alf : {d : VvcAlfData} → d ≡ zero_alf → (d.luma ≡ to_luma no_luma.default) × (d.chroma ≡ to_chroma no_chroma.default) × (d.cc_cb ≡ to_cc no_cc.default) × (d.cc_cr ≡ to_cc no_cc.default)
 unfolding zero_alf
 blank-alf e = (ap (λ (d : VvcAlfData). d.luma) e, ap (λ (d : VvcAlfData). d.chroma) e, ap (λ (d : VvcAlfData). d.cc_cb) e, ap (λ (d : VvcAlfData). d.cc_cr) e)
-
--- no flag is set
-pub none-of-four : (a b c d : Bool) → (a || (b || (c || d))) ≡ false → (a ≡ false) × (b ≡ false) × (c ≡ false) × (d ≡ false)
-none-of-four true b c d e = never_true (sym e)
-none-of-four false true c d e = never_true (sym e)
-none-of-four false false true d e = never_true (sym e)
-none-of-four false false false true e = never_true (sym e)
-none-of-four false false false false e = (refl, refl, refl, refl)
 
 -- a record of these flags
 pub alf-parts : (d : VvcAlfData) {luma chroma cb cr : Bool}

@@ -1,5 +1,5 @@
 // alf_data(), H.266 7.3.2.18.
-ghost use Rattle.std.specs.Prelude.{◌≡◌, ◌||◌};
+ghost use Rattle.std.specs.Prelude.{◌≡◌};
 ghost use Rattle.aps.specs.AlfSyntax.{to_luma, no_luma, to_chroma, no_chroma, to_cc, no_cc, alf, alf_filters};
 ghost use Rattle.aps.specs.ApsSyntax.{zero_alf};
 ghost use Rattle.aps.specs.Reads.{Reads, filled};
@@ -109,14 +109,7 @@ impl Default for VvcAlfData {
     }
 }
 
-// One of the four flags is set.
-fn is_any(luma: bool, chroma: bool, cb: bool, cr: bool) -> bool
-    ensures { result ≡ (luma || (chroma || (cb || cr))) }
-{
-    luma || chroma || cb || cr
-}
-
-// What the four flags announce; without any of them there is no code to read.
+// What the four flags announce.
 fn read_alf_filters(reader: &mut Reader, d: &mut VvcAlfData) -> Result<(), Refusal>
     requires { (d.old.luma ≡ to_luma no_luma.default) × (d.old.chroma ≡ to_chroma no_chroma.default)
         × (d.old.cc_cb ≡ to_cc no_cc.default) × (d.old.cc_cr ≡ to_cc no_cc.default) }
@@ -133,9 +126,6 @@ fn read_alf_filters(reader: &mut Reader, d: &mut VvcAlfData) -> Result<(), Refus
     let chroma = d.alf_chroma_filter_signal_flag;
     let cb = d.alf_cc_cb_filter_signal_flag;
     let cr = d.alf_cc_cr_filter_signal_flag;
-    if !is_any(luma, chroma, cb, cr) {
-        return Ok(());
-    }
     read_luma(reader, luma, &mut d.luma)?;
     read_chroma(reader, chroma, &mut d.chroma)?;
     read_cc(reader, cb, &mut d.cc_cb)?;
