@@ -1,12 +1,12 @@
 // A set out of the numbers that stand for it.
-ghost use Rattle.std.specs.Prelude.{◌≡◌, ◌+◌, ◌≤◌, ◌<◌, ℤ, pos, negsuc, length, map, get_or};
+ghost use Rattle.std.specs.Prelude.{◌≡◌, ◌+◌, ◌≤◌, ◌<◌, ℤ, pos, negsuc, true, false, map, get_or, IfSome, IfNone};
 ghost use Rattle.aps_c.specs.SetOf.{natural, integer, truth, part};
 ghost use Rattle.aps_c.specs.SetOf.{kind_of, luma_of, chroma_of, cc_of, alf_of, lmcs_of, scaling_of, set_of};
 ghost use Rattle.aps_c.specs.SetOf.{all_in, fits_luma, fits_chroma, fits_cc, fits_alf, fits_lmcs, fits_scaling, fits_head, fits, is_set};
 
 use crate::numbers::NUMBERS;
 use aps::alf::{VvcAlfCcFilters, VvcAlfChroma, VvcAlfData, VvcAlfLuma};
-use aps::aps::{ApsKind, Lmcs, Scaling, VvcAps};
+use aps::aps::{ApsKind, VvcAps};
 use aps::lmcs::VvcLmcsData;
 use aps::scaling_list::VvcScalingListData;
 use std::array;
@@ -103,24 +103,20 @@ impl Field for ApsKind {
     ghost of = { λ z. kind_of (natural 255 z) };
 
     fn of(x: i64) -> ApsKind {
-        match u8::of(x) {
-            Lmcs::NUMBER => ApsKind::Lmcs,
-            Scaling::NUMBER => ApsKind::Scaling,
-            _ => ApsKind::Alf,
-        }
+        ApsKind::try_from(u8::of(x)).unwrap_or(ApsKind::Alf)
     }
 }
 
-fn field_at<T: Field>(src: &[i64], at: usize) -> T
-    requires { at < length src.now }
+fn field_at<T: Field>(src: &[i64; NUMBERS], at: usize) -> T
+    requires { at < 3122 }
     ensures { result ≡ T.of (get_or src.now at (pos 0)) }
 {
     T::of(src[at])
 }
 
 // N fields from index `from` on.
-fn fields_at<T: Field, const N: usize>(src: &[i64], from: usize) -> [T; N]
-    requires { from + N ≤ length src.now }
+fn fields_at<T: Field, const N: usize>(src: &[i64; NUMBERS], from: usize) -> [T; N]
+    requires { from + N ≤ 3122 }
     ensures { result ≡ map T.of (part src.now from N) }
 {
     array::from_fn(|i| field_at(src, from + i))
@@ -128,8 +124,8 @@ fn fields_at<T: Field, const N: usize>(src: &[i64], from: usize) -> [T; N]
 
 // The records, each from index `from` on.
 #[tactic(auto, unfolding(crate::specs::SetOf::luma_of))]
-fn luma_of(src: &[i64], from: usize) -> VvcAlfLuma
-    requires { (from + 927 ≤ length src.now) × (from ≤ 2000) }
+fn luma_of(src: &[i64; NUMBERS], from: usize) -> VvcAlfLuma
+    requires { from + 927 ≤ 3122 }
     ensures { result ≡ luma_of src.now from }
 {
     VvcAlfLuma {
@@ -143,8 +139,8 @@ fn luma_of(src: &[i64], from: usize) -> VvcAlfLuma
 }
 
 #[tactic(auto, unfolding(crate::specs::SetOf::chroma_of))]
-fn chroma_of(src: &[i64], from: usize) -> VvcAlfChroma
-    requires { (from + 146 ≤ length src.now) × (from ≤ 2000) }
+fn chroma_of(src: &[i64; NUMBERS], from: usize) -> VvcAlfChroma
+    requires { from + 146 ≤ 3122 }
     ensures { result ≡ chroma_of src.now from }
 {
     VvcAlfChroma {
@@ -157,8 +153,8 @@ fn chroma_of(src: &[i64], from: usize) -> VvcAlfChroma
 }
 
 #[tactic(auto, unfolding(crate::specs::SetOf::cc_of))]
-fn cc_of(src: &[i64], from: usize) -> VvcAlfCcFilters
-    requires { (from + 57 ≤ length src.now) × (from ≤ 2000) }
+fn cc_of(src: &[i64; NUMBERS], from: usize) -> VvcAlfCcFilters
+    requires { from + 57 ≤ 3122 }
     ensures { result ≡ cc_of src.now from }
 {
     VvcAlfCcFilters {
@@ -169,8 +165,7 @@ fn cc_of(src: &[i64], from: usize) -> VvcAlfCcFilters
 }
 
 #[tactic(auto, unfolding(crate::specs::SetOf::alf_of))]
-fn alf_of(src: &[i64]) -> VvcAlfData
-    requires { length src.now ≡ 3122 }
+fn alf_of(src: &[i64; NUMBERS]) -> VvcAlfData
     ensures { result ≡ alf_of src.now }
 {
     VvcAlfData {
@@ -186,8 +181,7 @@ fn alf_of(src: &[i64]) -> VvcAlfData
 }
 
 #[tactic(auto, unfolding(crate::specs::SetOf::lmcs_of))]
-fn lmcs_of(src: &[i64]) -> VvcLmcsData
-    requires { length src.now ≡ 3122 }
+fn lmcs_of(src: &[i64; NUMBERS]) -> VvcLmcsData
     ensures { result ≡ lmcs_of src.now }
 {
     VvcLmcsData {
@@ -201,8 +195,7 @@ fn lmcs_of(src: &[i64]) -> VvcLmcsData
     }
 }
 
-fn scaling_of(src: &[i64]) -> VvcScalingListData
-    requires { length src.now ≡ 3122 }
+fn scaling_of(src: &[i64; NUMBERS]) -> VvcScalingListData
     ensures { result ≡ scaling_of src.now }
 {
     VvcScalingListData {
@@ -215,8 +208,7 @@ fn scaling_of(src: &[i64]) -> VvcScalingListData
 }
 
 #[tactic(auto, unfolding(crate::specs::SetOf::set_of))]
-pub(crate) fn set_of(src: &[i64]) -> VvcAps
-    requires { length src.now ≡ 3122 }
+fn set_of(src: &[i64; NUMBERS]) -> VvcAps
     ensures { result ≡ set_of src.now }
 {
     VvcAps {
@@ -231,8 +223,8 @@ pub(crate) fn set_of(src: &[i64]) -> VvcAps
 }
 
 // n numbers from index `from` on are such as a field holds.
-fn fit<T: Field>(src: &[i64], from: usize, n: usize) -> bool
-    requires { from + n ≤ length src.now }
+fn fit<T: Field>(src: &[i64; NUMBERS], from: usize, n: usize) -> bool
+    requires { from + n ≤ 3122 }
     ensures { result ≡ all_in T.LOW T.HIGH src.now from n }
 {
     src[from..from + n]
@@ -242,8 +234,8 @@ fn fit<T: Field>(src: &[i64], from: usize, n: usize) -> bool
 
 // The fields can hold the numbers.
 #[tactic(auto, unfolding(crate::specs::SetOf::fits_luma))]
-fn fits_luma(src: &[i64], from: usize) -> bool
-    requires { (from + 927 ≤ length src.now) × (from ≤ 2000) }
+fn fits_luma(src: &[i64; NUMBERS], from: usize) -> bool
+    requires { from + 927 ≤ 3122 }
     ensures { result ≡ fits_luma src.now from }
 {
     fit::<bool>(src, from, 1)
@@ -255,8 +247,8 @@ fn fits_luma(src: &[i64], from: usize) -> bool
 }
 
 #[tactic(auto, unfolding(crate::specs::SetOf::fits_chroma))]
-fn fits_chroma(src: &[i64], from: usize) -> bool
-    requires { (from + 146 ≤ length src.now) × (from ≤ 2000) }
+fn fits_chroma(src: &[i64; NUMBERS], from: usize) -> bool
+    requires { from + 146 ≤ 3122 }
     ensures { result ≡ fits_chroma src.now from }
 {
     fit::<bool>(src, from, 1)
@@ -266,16 +258,15 @@ fn fits_chroma(src: &[i64], from: usize) -> bool
 }
 
 #[tactic(auto, unfolding(crate::specs::SetOf::fits_cc))]
-fn fits_cc(src: &[i64], from: usize) -> bool
-    requires { (from + 57 ≤ length src.now) × (from ≤ 2000) }
+fn fits_cc(src: &[i64; NUMBERS], from: usize) -> bool
+    requires { from + 57 ≤ 3122 }
     ensures { result ≡ fits_cc src.now from }
 {
     fit::<u32>(src, from, 1) && fit::<u8>(src, from + 1, 28) && fit::<bool>(src, from + 29, 28)
 }
 
 #[tactic(auto, unfolding(crate::specs::SetOf::fits_alf))]
-fn fits_alf(src: &[i64]) -> bool
-    requires { length src.now ≡ 3122 }
+fn fits_alf(src: &[i64; NUMBERS]) -> bool
     ensures { result ≡ fits_alf src.now }
 {
     fit::<bool>(src, 4, 4)
@@ -286,8 +277,7 @@ fn fits_alf(src: &[i64]) -> bool
 }
 
 #[tactic(auto, unfolding(crate::specs::SetOf::fits_lmcs))]
-fn fits_lmcs(src: &[i64]) -> bool
-    requires { length src.now ≡ 3122 }
+fn fits_lmcs(src: &[i64; NUMBERS]) -> bool
     ensures { result ≡ fits_lmcs src.now }
 {
     fit::<u32>(src, 1195, 19)
@@ -297,25 +287,35 @@ fn fits_lmcs(src: &[i64]) -> bool
 }
 
 #[tactic(auto, unfolding(crate::specs::SetOf::fits_scaling))]
-fn fits_scaling(src: &[i64]) -> bool
-    requires { length src.now ≡ 3122 }
+fn fits_scaling(src: &[i64; NUMBERS]) -> bool
     ensures { result ≡ fits_scaling src.now }
 {
     fit::<bool>(src, 1232, 56) && fit::<u32>(src, 1288, 28) && fit::<i32>(src, 1316, 1806)
 }
 
 #[tactic(auto, unfolding(crate::specs::SetOf::fits_head))]
-fn fits_head(src: &[i64]) -> bool
-    requires { length src.now ≡ 3122 }
+fn fits_head(src: &[i64; NUMBERS]) -> bool
     ensures { result ≡ fits_head src.now }
 {
     fit::<ApsKind>(src, 0, 1) && fit::<u8>(src, 1, 1) && fit::<bool>(src, 2, 2)
 }
 
-// As many numbers as a set has, and such that its fields can hold them.
-#[tactic(auto, unfolding(crate::specs::SetOf::is_set, crate::specs::SetOf::fits))]
-pub fn is_set(src: &[i64]) -> bool
-    ensures { result ≡ is_set src.now }
+#[tactic(auto, unfolding(crate::specs::SetOf::fits))]
+fn fits(src: &[i64; NUMBERS]) -> bool
+    ensures { result ≡ fits src.now }
 {
-    src.len() == NUMBERS && fits_head(src) && fits_alf(src) && fits_lmcs(src) && fits_scaling(src)
+    fits_head(src) && fits_alf(src) && fits_lmcs(src) && fits_scaling(src)
+}
+
+// The set that the numbers stand for, if there are as many as a set has and its fields can hold them.
+#[tactic(auto, unfolding(crate::specs::SetOf::is_set))]
+pub(crate) fn set_in(src: &[i64]) -> Option<VvcAps>
+    ensures some { IfSome result (λ set. (is_set src.now ≡ true) × (set ≡ set_of src.now)) }
+    ensures none { IfNone result (is_set src.now ≡ false) }
+{
+    let numbers = src.as_array()?;
+    if !fits(numbers) {
+        return None;
+    }
+    Some(set_of(numbers))
 }
