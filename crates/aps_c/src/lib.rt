@@ -140,8 +140,8 @@ pub fn aps_write(set: &[i64], out: &mut [u8], len: &mut [u64; 1]) -> u32
     ensures out { out.new ≡ left out.old (write_numbers set.now out.old) }
     ensures len { len.new ≡ place_left (write_numbers set.now out.old) len.old }
 {
-    match set_in(set) {
-        Some(set) => sized(write_aps(&set, out), len),
+    match &set_in(set) {
+        Some(set) => sized(write_aps(set, out), len),
         None => 2,
     }
 }
@@ -152,8 +152,8 @@ pub fn aps_write_nal(set: &[i64], unit_type: u8, out: &mut [u8], len: &mut [u64;
     ensures out { out.new ≡ left out.old (write_numbers_nal set.now unit_type out.old) }
     ensures len { len.new ≡ place_left (write_numbers_nal set.now unit_type out.old) len.old }
 {
-    match set_in(set) {
-        Some(set) => sized(write_aps_nal(&set, unit_type, out), len),
+    match &set_in(set) {
+        Some(set) => sized(write_aps_nal(set, unit_type, out), len),
         None => 2,
     }
 }

@@ -207,21 +207,6 @@ fn scaling_of(src: &[i64; NUMBERS]) -> VvcScalingListData
     }
 }
 
-#[tactic(auto, unfolding(crate::specs::SetOf::set_of))]
-fn set_of(src: &[i64; NUMBERS]) -> VvcAps
-    ensures { result ≡ set_of src.now }
-{
-    VvcAps {
-        kind: field_at(src, 0),
-        aps_adaptation_parameter_set_id: field_at(src, 1),
-        aps_chroma_present_flag: field_at(src, 2),
-        aps_extension_flag: field_at(src, 3),
-        alf: alf_of(src),
-        lmcs: lmcs_of(src),
-        scaling: scaling_of(src),
-    }
-}
-
 // n numbers from index `from` on are such as a field holds.
 fn fit<T: Field>(src: &[i64; NUMBERS], from: usize, n: usize) -> bool
     requires { from + n ≤ 3122 }
@@ -308,7 +293,7 @@ fn fits(src: &[i64; NUMBERS]) -> bool
 }
 
 // The set that the numbers stand for, if there are as many as a set has and its fields can hold them.
-#[tactic(auto, unfolding(crate::specs::SetOf::is_set))]
+#[tactic(auto, unfolding(crate::specs::SetOf::is_set, crate::specs::SetOf::set_of))]
 pub(crate) fn set_in(src: &[i64]) -> Option<VvcAps>
     ensures some { IfSome result (λ set. (is_set src.now ≡ true) × (set ≡ set_of src.now)) }
     ensures none { IfNone result (is_set src.now ≡ false) }
@@ -317,5 +302,13 @@ pub(crate) fn set_in(src: &[i64]) -> Option<VvcAps>
     if !fits(numbers) {
         return None;
     }
-    Some(set_of(numbers))
+    Some(VvcAps {
+        kind: field_at(numbers, 0),
+        aps_adaptation_parameter_set_id: field_at(numbers, 1),
+        aps_chroma_present_flag: field_at(numbers, 2),
+        aps_extension_flag: field_at(numbers, 3),
+        alf: alf_of(numbers),
+        lmcs: lmcs_of(numbers),
+        scaling: scaling_of(numbers),
+    })
 }
