@@ -19,6 +19,8 @@ use Rattle.std.specs.Fn.{Called}
 use Rattle.std.specs.Int.{FitsUnsignedBits}
 use Rattle.std.specs.Result.{OkIff, result_unwrap_or}
 use Rattle.aps.proofs.CodecLaws.{never_true, and_left, and_right}
+use Rattle.bitstream.specs.declared.Refusal.{Refusal}
+use Rattle.aps.specs.Reading.{kind_named}
 use Rattle.aps.specs.declared.aps.ApsKind.{ApsKind}
 use Rattle.aps_c.specs.SetOf.{between, natural, integer, truth, kind_of}
 
@@ -86,6 +88,14 @@ as_written z e = rw e (go (between (negsuc 2147483647) (pos 2147483647) z) refl)
     go true h = to_z-of_z {w = w32} (rw (sym (integer-in z h)) (integer-fits z h))
     go false h = rw (sym (integer-out z h))
 
+-- the kind of a number, and the filters' where there is none
+pub kind-tried : (n : ℕ) (r : Result ApsKind Refusal) → kind_named n r → result_unwrap_or r ApsKind.Alf ≡ kind_of n
+unfolding kind_of
+kind-tried n (Ok ApsKind.Alf) h = rw h
+kind-tried n (Ok ApsKind.Lmcs) h = rw h
+kind-tried n (Ok ApsKind.Scaling) h = rw h
+kind-tried n (Err e) h = rw (ne_eqb n 1 λ k. omega (arith, k, h.0), ne_eqb n 2 λ k. omega (arith, k, h.0))
+
 -- `x == 1` of an i64
 pub truth-is : (z : ℤ) → SFits w64 z → eqb (of_z w64 z) 1 ≡ truth z
 unfolding truth
@@ -111,8 +121,3 @@ pub from_fn-made : {F B : Type 0} {g : Mut F (ℕ × Unit {0}) B} {f : F} {ys : 
 from_fn-made {f = f} {ys = ys} {n = n} m h is k d b =
     let z : 0 + k ≡ k = omega arith in
     rw z at (each-made h is ys f 0 n refl m.each k d b)
-
--- a number that is no other kind's
-pub kind-rest : (n : ℕ) → (n ≡ 1 → ⊥) → (n ≡ 2 → ⊥) → ApsKind.Alf ≡ kind_of n
-unfolding kind_of
-kind-rest n g h = rw (ne_eqb n 1 g, ne_eqb n 2 h)

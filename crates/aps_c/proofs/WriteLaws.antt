@@ -4,25 +4,17 @@ use mathlib.Core.Path.{◌≡◌, refl, ap, ◌∙◌}
 use mathlib.Core.Bool.{true, false}
 use mathlib.Core.List.{List}
 use native.Mathlib.Omega.{arith}
-use borrow.Author.Tests.{eqb-true, eq-eqb, ne_eqb}
-use lib.Dec.{eqb}
+use borrow.Author.Tests.{eq-eqb, ne_eqb}
 use lib.IntN.{ℤ}
-use lib.ListN.{length}
 use Rattle.bitstream.specs.Outcome.{Outcome, value, refused, left}
 use Rattle.aps.specs.ApsSyntax.{number_of}
 use Rattle.aps.specs.Rbsp.{parse_aps_rbsp}
 use Rattle.aps.specs.Writing.{write_aps, write_aps_nal}
 use Rattle.aps.specs.declared.aps.ApsKind.{ApsKind}
 use Rattle.aps.specs.declared.aps.VvcAps.{VvcAps}
-use Rattle.aps.proofs.CodecLaws.{and_left}
-use Rattle.aps_c.specs.SetOf.{fits, is_set, set_of}
+use Rattle.aps_c.specs.SetOf.{is_set, set_of}
 use Rattle.aps_c.specs.Codes.{code, place_left, write_numbers, write_numbers_nal, rewrite, rewrite_of}
 use Rattle.aps_c.proofs.CodeLaws.{code-refused, place-refused}
-
--- a set has 3122 numbers
-pub set-size : (l : List ℤ) → is_set l ≡ true → length l ≡ 3122
-unfolding is_set
-set-size l h = eqb-true (length l) 3122 (and_left (eqb (length l) 3122) (fits l) h)
 
 module _ (l : List ℤ) (out : List ℕ) where
   pub no-set : is_set l ≡ false → write_numbers l out ≡ refused 2

@@ -13,7 +13,7 @@ ghost use Rattle.aps_c.specs.Numbers.{header_numbers};
 
 pub use crate::numbers::NUMBERS;
 use crate::numbers::put_set;
-use crate::set_of::{is_set, set_of};
+use crate::set_of::set_in;
 use aps::aps::{Reading, VvcAps, parse_aps_head, parse_aps_rbsp};
 use aps::nal_header::{VvcNalHeader, parse_nal_header};
 use aps::unit::{parse_aps, parse_unit_head};
@@ -140,10 +140,10 @@ pub fn aps_write(set: &[i64], out: &mut [u8], len: &mut [u64; 1]) -> u32
     ensures out { out.new ≡ left out.old (write_numbers set.now out.old) }
     ensures len { len.new ≡ place_left (write_numbers set.now out.old) len.old }
 {
-    if !is_set(set) {
-        return 2;
+    match &set_in(set) {
+        Some(set) => sized(write_aps(set, out), len),
+        None => 2,
     }
-    sized(write_aps(&set_of(set), out), len)
 }
 
 // A set as a unit at the start of out, and its length.
@@ -152,10 +152,10 @@ pub fn aps_write_nal(set: &[i64], unit_type: u8, out: &mut [u8], len: &mut [u64;
     ensures out { out.new ≡ left out.old (write_numbers_nal set.now unit_type out.old) }
     ensures len { len.new ≡ place_left (write_numbers_nal set.now unit_type out.old) len.old }
 {
-    if !is_set(set) {
-        return 2;
+    match &set_in(set) {
+        Some(set) => sized(write_aps_nal(set, unit_type, out), len),
+        None => 2,
     }
-    sized(write_aps_nal(&set_of(set), unit_type, out), len)
 }
 
 // A set read from an RBSP and written again at the start of out, and its length.

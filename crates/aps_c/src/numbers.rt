@@ -1,5 +1,6 @@
 // A set as numbers in a lent array: kind, id and flags, then every field of its three records in their order; a flag is 0 or 1.
 ghost use Rattle.std.specs.Prelude.{◌≡◌, ◌+◌, ◌≤◌, ℤ, pos, length, map};
+ghost use Rattle.std.proofs.lemmas.List.Edits.{sets};
 ghost use Rattle.aps_c.specs.Numbers.{Put, flag_number, luma_numbers, chroma_numbers, cc_numbers, alf_numbers, lmcs_numbers, scaling_numbers, numbers};
 
 use aps::alf::{VvcAlfCcFilters, VvcAlfChroma, VvcAlfData, VvcAlfLuma};
@@ -50,58 +51,60 @@ impl Number for bool {
     }
 }
 
-// As many numbers as src has fields, from index `from` on, and the index after them.
-fn put<T: Number>(src: &[T], out: &mut [i64; NUMBERS], from: usize) -> usize
-    requires { from + length src.now ≤ 3122 }
-    ensures { Put out.old from (map T.number src.now) out.new result × (result ≡ from + length src.now) }
+// As many numbers as src has fields, from index `at` on, which is then the index after them.
+fn put<T: Number>(src: &[T], out: &mut [i64; NUMBERS], at: &mut usize)
+    requires { at.old + length src.now ≤ 3122 }
+    ensures { Put out.old at.old (map T.number src.now) out.new at.new × (at.new ≡ at.old + length src.now) }
 {
+    let from = *at;
     for (i, x) in src.iter().enumerate() {
         out[from + i] = x.number();
     }
-    from + src.len()
+    *at = from + src.len();
 }
 
-fn put_luma(d: &VvcAlfLuma, out: &mut [i64; NUMBERS], from: usize) -> usize
-    requires { from ≤ 8 }
-    ensures { Put out.old from (luma_numbers d.now) out.new result × (result ≡ from + 927) }
+// The records. As impls of one trait each would give its count and its numbers as members in place of two clauses, 2 lines more.
+fn put_luma(d: &VvcAlfLuma, out: &mut [i64; NUMBERS], at: &mut usize)
+    requires { at.old ≤ 8 }
+    ensures { Put out.old at.old (luma_numbers d.now) out.new at.new × (at.new ≡ at.old + 927) }
 {
     let head = [
         u32::from(d.alf_luma_clip_flag),
         d.alf_luma_num_filters_signalled_minus1,
     ];
-    let idx_at = put(&head, out, from);
-    let abs_at = put(&d.alf_luma_coeff_delta_idx, out, idx_at);
-    let sign_at = put(&d.coeff_abs, out, abs_at);
-    let clip_at = put(&d.coeff_sign, out, sign_at);
-    put(&d.clip_idx, out, clip_at)
+    put(&head, out, at);
+    put(&d.alf_luma_coeff_delta_idx, out, at);
+    put(&d.coeff_abs, out, at);
+    put(&d.coeff_sign, out, at);
+    put(&d.clip_idx, out, at);
 }
 
-fn put_chroma(d: &VvcAlfChroma, out: &mut [i64; NUMBERS], from: usize) -> usize
-    requires { from ≤ 935 }
-    ensures { Put out.old from (chroma_numbers d.now) out.new result × (result ≡ from + 146) }
+fn put_chroma(d: &VvcAlfChroma, out: &mut [i64; NUMBERS], at: &mut usize)
+    requires { at.old ≤ 935 }
+    ensures { Put out.old at.old (chroma_numbers d.now) out.new at.new × (at.new ≡ at.old + 146) }
 {
     let head = [
         u32::from(d.alf_chroma_clip_flag),
         d.alf_chroma_num_alt_filters_minus1,
     ];
-    let abs_at = put(&head, out, from);
-    let sign_at = put(&d.coeff_abs, out, abs_at);
-    let clip_at = put(&d.coeff_sign, out, sign_at);
-    put(&d.clip_idx, out, clip_at)
+    put(&head, out, at);
+    put(&d.coeff_abs, out, at);
+    put(&d.coeff_sign, out, at);
+    put(&d.clip_idx, out, at);
 }
 
-fn put_cc(d: &VvcAlfCcFilters, out: &mut [i64; NUMBERS], from: usize) -> usize
-    requires { from ≤ 1138 }
-    ensures { Put out.old from (cc_numbers d.now) out.new result × (result ≡ from + 57) }
+fn put_cc(d: &VvcAlfCcFilters, out: &mut [i64; NUMBERS], at: &mut usize)
+    requires { at.old ≤ 1138 }
+    ensures { Put out.old at.old (cc_numbers d.now) out.new at.new × (at.new ≡ at.old + 57) }
 {
-    let abs_at = put(&[d.filters_signalled_minus1], out, from);
-    let sign_at = put(&d.mapped_coeff_abs, out, abs_at);
-    put(&d.coeff_sign, out, sign_at)
+    put(&[d.filters_signalled_minus1], out, at);
+    put(&d.mapped_coeff_abs, out, at);
+    put(&d.coeff_sign, out, at);
 }
 
-fn put_alf(d: &VvcAlfData, out: &mut [i64; NUMBERS], from: usize) -> usize
-    requires { from ≤ 4 }
-    ensures { Put out.old from (alf_numbers d.now) out.new result × (result ≡ from + 1191) }
+fn put_alf(d: &VvcAlfData, out: &mut [i64; NUMBERS], at: &mut usize)
+    requires { at.old ≤ 4 }
+    ensures { Put out.old at.old (alf_numbers d.now) out.new at.new × (at.new ≡ at.old + 1191) }
 {
     let signals = [
         d.alf_luma_filter_signal_flag,
@@ -109,16 +112,16 @@ fn put_alf(d: &VvcAlfData, out: &mut [i64; NUMBERS], from: usize) -> usize
         d.alf_cc_cb_filter_signal_flag,
         d.alf_cc_cr_filter_signal_flag,
     ];
-    let luma_at = put(&signals, out, from);
-    let chroma_at = put_luma(&d.luma, out, luma_at);
-    let cb_at = put_chroma(&d.chroma, out, chroma_at);
-    let cr_at = put_cc(&d.cc_cb, out, cb_at);
-    put_cc(&d.cc_cr, out, cr_at)
+    put(&signals, out, at);
+    put_luma(&d.luma, out, at);
+    put_chroma(&d.chroma, out, at);
+    put_cc(&d.cc_cb, out, at);
+    put_cc(&d.cc_cr, out, at);
 }
 
-fn put_lmcs(d: &VvcLmcsData, out: &mut [i64; NUMBERS], from: usize) -> usize
-    requires { from ≤ 1195 }
-    ensures { Put out.old from (lmcs_numbers d.now) out.new result × (result ≡ from + 37) }
+fn put_lmcs(d: &VvcLmcsData, out: &mut [i64; NUMBERS], at: &mut usize)
+    requires { at.old ≤ 1195 }
+    ensures { Put out.old at.old (lmcs_numbers d.now) out.new at.new × (at.new ≡ at.old + 37) }
 {
     let head = [
         d.lmcs_min_bin_idx,
@@ -126,25 +129,25 @@ fn put_lmcs(d: &VvcLmcsData, out: &mut [i64; NUMBERS], from: usize) -> usize
         d.lmcs_delta_cw_prec_minus1,
     ];
     let crs = [d.lmcs_delta_abs_crs, u8::from(d.lmcs_delta_sign_crs_flag)];
-    let abs_at = put(&head, out, from);
-    let sign_at = put(&d.lmcs_delta_abs_cw, out, abs_at);
-    let crs_at = put(&d.lmcs_delta_sign_cw_flag, out, sign_at);
-    put(&crs, out, crs_at)
+    put(&head, out, at);
+    put(&d.lmcs_delta_abs_cw, out, at);
+    put(&d.lmcs_delta_sign_cw_flag, out, at);
+    put(&crs, out, at);
 }
 
-fn put_scaling(d: &VvcScalingListData, out: &mut [i64; NUMBERS], from: usize) -> usize
-    requires { from ≤ 1232 }
-    ensures { Put out.old from (scaling_numbers d.now) out.new result }
+fn put_scaling(d: &VvcScalingListData, out: &mut [i64; NUMBERS], at: &mut usize)
+    requires { at.old ≤ 1232 }
+    ensures { Put out.old at.old (scaling_numbers d.now) out.new at.new }
 {
-    let pred_at = put(&d.copy_mode_flag, out, from);
-    let delta_at = put(&d.pred_mode_flag, out, pred_at);
-    let dc_at = put(&d.pred_id_delta, out, delta_at);
-    let lists_at = put(&d.dc_coef, out, dc_at);
-    put(&d.scaling_list, out, lists_at)
+    put(&d.copy_mode_flag, out, at);
+    put(&d.pred_mode_flag, out, at);
+    put(&d.pred_id_delta, out, at);
+    put(&d.dc_coef, out, at);
+    put(&d.scaling_list, out, at);
 }
 
-pub fn put_set(set: &VvcAps, out: &mut [i64; NUMBERS]) -> usize
-    ensures { Put out.old 0 (numbers set.now) out.new result }
+pub fn put_set(set: &VvcAps, out: &mut [i64; NUMBERS])
+    ensures { out.new ≡ sets out.old 0 (numbers set.now) }
 {
     let head = [
         u8::from(set.kind),
@@ -152,8 +155,9 @@ pub fn put_set(set: &VvcAps, out: &mut [i64; NUMBERS]) -> usize
         u8::from(set.aps_chroma_present_flag),
         u8::from(set.aps_extension_flag),
     ];
-    let alf_at = put(&head, out, 0);
-    let lmcs_at = put_alf(&set.alf, out, alf_at);
-    let scaling_at = put_lmcs(&set.lmcs, out, lmcs_at);
-    put_scaling(&set.scaling, out, scaling_at)
+    let mut at = 0;
+    put(&head, out, &mut at);
+    put_alf(&set.alf, out, &mut at);
+    put_lmcs(&set.lmcs, out, &mut at);
+    put_scaling(&set.scaling, out, &mut at);
 }

@@ -6,8 +6,8 @@ use mathlib.Core.Option.{none, some}
 use native.Mathlib.Nat.{sub_self, add-sub_of_le}
 use native.Mathlib.Numerals.{add-one}
 use native.Mathlib.Omega.{arith}
-use lib.ListN.{length, get_or, drop, drop_of_length-le}
-use lib.Seq.{drop-cons, drop-drop, take-add, take-append_seam}
+use lib.ListN.{length, get_or, take, drop, length-drop, drop_of_length-le}
+use lib.Seq.{drop-cons, drop-drop, take-add, take-append_seam, take_all}
 use Rattle.aps_table.specs.Split.{Units, prepend, ended, gap, body}
 use Rattle.aps_table.specs.Inner.{Skipped, InUnit, UnitEnd, between}
 use Rattle.aps_table.proofs.SplitLaws.{prepend-nil, prepend-prepend}
@@ -124,6 +124,15 @@ module _ (s : List ℕ) (a : ℕ) where
     to = v.to;
     is = u.is ∙ ap (prepend (between s a e)) v.is ∙ parts e r u.from v.from (body 0 (drop r s));
   }
+
+-- the end of a unit that starts after a bytes of s, from its own bytes
+pub end-after : (s : List ℕ) (a n : ℕ) → a ≤ length s → UnitEnd (take (length s - a) (drop a s)) 0 n → UnitEnd s a (a + n)
+end-after s a n h u =
+    let t : take (length s - a) (drop a s) ≡ drop a s = take_all (length s - a) (drop a s) (omega (arith, length-drop a s)) in
+    let v : UnitEnd (drop a s) 0 n = rw t at u in
+    let z : n - 0 ≡ n = omega arith in
+    let m : a + n - a ≡ n = omega arith in
+    record { from = omega arith; to = omega (arith, v.to, length-drop a s); ends = rw (m, ← drop-drop n a s) (rw z at v.ends) }
 
 -- what stands after the zero bytes
 gap_other : (z b : ℕ) (t : List ℕ) → (b ≡ 0 → ⊥) → (b ≡ 1 → ⊥) → gap z (b ∷ t) ≡ none

@@ -5,3 +5,4 @@ pub mod list;
 pub mod places;
 mod split;
 pub mod table;
+mod unit_end;

@@ -1,6 +1,7 @@
 // The split of a stream into units, H.266 Annex B.
-ghost use Rattle.std.specs.Prelude.{◌≡◌, ◌+◌, ◌≤◌, length};
+ghost use Rattle.std.specs.Prelude.{◌≡◌, ◌≤◌, length};
 
+use crate::unit_end::unit_end;
 use bitstream::{Input, Refusal};
 
 // A place in a stream.
@@ -21,7 +22,7 @@ pub(crate) struct Unit<'a> {
 
 impl<'a> Cursor<'a> {
     ghost use Rattle.aps_table.specs.Split.{split};
-    ghost use Rattle.aps_table.specs.Inner.{Skipped, UnitEnd, Scanned, Follows, Checks};
+    ghost use Rattle.aps_table.specs.Inner.{Skipped, Follows, Checks};
 
     // The start of a stream.
     pub(crate) fn new(stream: Input<'a>) -> Self
@@ -46,62 +47,6 @@ impl<'a> Cursor<'a> {
         s.len()
     }
 
-    // Where a unit goes on after the last bytes of a stream, fewer than three: zero bytes at the end are not the unit's own.
-    fn scan_last(self) -> Option<usize>
-        requires { length self.bytes.now ≤ self.at + 2 }
-        ensures { Scanned self.entry.bytes.now self.entry.at result }
-    {
-        let s = self.bytes;
-        let e = self.at;
-        let n = s.len();
-        if n == e {
-            return None;
-        }
-        if s[n - 1] != 0 {
-            return Some(n);
-        }
-        if s[e] != 0 {
-            return Some(e + 1);
-        }
-        None
-    }
-
-    // Where a unit goes on after a step; none: it ends here. No start code begins in three bytes of which the last is over 1.
-    fn scan_on(self) -> Option<usize>
-        ensures { Scanned self.entry.bytes.now self.entry.at result }
-    {
-        let s = self.bytes;
-        let e = self.at;
-        if s.len() - e < 3 {
-            return self.scan_last();
-        }
-        if s[e + 2] > 1 {
-            return Some(e + 3);
-        }
-        if s[e + 1] != 0 {
-            return Some(e + 2);
-        }
-        if s[e] != 0 {
-            return Some(e + 1);
-        }
-        None
-    }
-
-    // Where the unit that starts here ends.
-    // A call by itself, so that its loop is laid out alone.
-    #[inline(never)]
-    fn unit_end(self) -> usize
-        ensures { UnitEnd self.entry.bytes.now self.entry.at result }
-    {
-        let bytes = self.bytes;
-        let mut e = self.at;
-        // The next place is what the step gives; no index is counted.
-        while let Some(next) = (Cursor { bytes, at: e }).scan_on() {
-            e = next;
-        }
-        e
-    }
-
     // What stands from here on, outside of a unit: a unit, or the end. 2: a byte that may not stand there.
     pub(crate) fn next_unit(self) -> Result<Option<Unit<'a>>, Refusal>
         ensures { Follows self.entry.bytes.now self.entry.at result }
@@ -118,13 +63,10 @@ impl<'a> Cursor<'a> {
         if i - from < 2 {
             return Err(Refusal::InvalidData);
         }
-        let start = Cursor {
-            bytes: s,
-            at: i + 1,
-        };
-        let end = start.unit_end();
+        let start = i + 1;
+        let end = start + unit_end(&s[start..]);
         Ok(Some(Unit {
-            bytes: &s[i + 1..end],
+            bytes: &s[start..end],
             rest: Cursor { bytes: s, at: end },
         }))
     }

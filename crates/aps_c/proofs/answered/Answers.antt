@@ -8,7 +8,7 @@ pub returns-in-Ok : goal.returns-in-Ok
 returns-in-Ok c =
     let a = c.args in
     let o = ap outcome_reading c.in-Ok.is in
-    record { code = code-value o; set = c.put_set.ensures.holds ∙ numbers-value a.set.now o; end = place-value a.end.now o }
+    record { code = code-value o; set = c.put_set.ensures ∙ numbers-value a.set.now o; end = place-value a.end.now o }
 
 pub returns-in-Err : goal.returns-in-Err
 returns-in-Err c =

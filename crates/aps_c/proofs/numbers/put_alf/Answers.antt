@@ -7,4 +7,4 @@ use Rattle.aps_c.proofs.numbers.put_alf.Goals as goal
 pub returns : goal.returns
 unfolding alf_numbers flags
 returns c =
-    (put_then (put_then (put_then (put_then c.put-luma_at.ensures.0 c.put_luma-chroma_at.ensures.0) c.put_chroma-cb_at.ensures.0) c.put_cc-cr_at.ensures.0) c.put_cc.ensures.0, omega arith)
+    (put_then (put_then (put_then (put_then c.put.ensures.0 c.put_luma.ensures.0) c.put_chroma.ensures.0) c.put_cc.ensures.0) c.put_cc-2.ensures.0, omega arith)

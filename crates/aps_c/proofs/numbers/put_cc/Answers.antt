@@ -7,4 +7,4 @@ use Rattle.aps_c.proofs.numbers.put_cc.Goals as goal
 pub returns : goal.returns
 unfolding cc_numbers naturals flags
 returns c =
-    (put_then (put_then c.put-abs_at.ensures.0 c.put-sign_at.ensures.0) c.put.ensures.0, omega arith)
+    (put_then (put_then c.put.ensures.0 c.put-2.ensures.0) c.put-3.ensures.0, omega arith)

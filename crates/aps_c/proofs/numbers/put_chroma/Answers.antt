@@ -7,4 +7,4 @@ use Rattle.aps_c.proofs.numbers.put_chroma.Goals as goal
 pub returns : goal.returns
 unfolding chroma_numbers naturals flags
 returns c =
-    (put_then (put_then (put_then ((rw (c.from.ensures, flag-byte c.args.d.now.alf_chroma_clip_flag) at c.put-abs_at.ensures.0)) c.put-sign_at.ensures.0) c.put-clip_at.ensures.0) c.put.ensures.0, omega arith)
+    (put_then (put_then (put_then ((rw (c.from.ensures, flag-byte c.args.d.now.alf_chroma_clip_flag) at c.put.ensures.0)) c.put-2.ensures.0) c.put-3.ensures.0) c.put-4.ensures.0, omega arith)

@@ -7,4 +7,4 @@ use Rattle.aps_c.proofs.numbers.put_lmcs.Goals as goal
 pub returns : goal.returns
 unfolding lmcs_numbers naturals flags
 returns c =
-    (put_then (put_then (put_then c.put-abs_at.ensures.0 c.put-sign_at.ensures.0) c.put-crs_at.ensures.0) (rw (c.from.ensures, flag-byte c.args.d.now.lmcs_delta_sign_crs_flag) at c.put.ensures.0), omega arith)
+    (put_then (put_then (put_then c.put.ensures.0 c.put-2.ensures.0) c.put-3.ensures.0) (rw (c.from.ensures, flag-byte c.args.d.now.lmcs_delta_sign_crs_flag) at c.put-4.ensures.0), omega arith)

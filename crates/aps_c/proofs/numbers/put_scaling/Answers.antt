@@ -7,4 +7,4 @@ use Rattle.aps_c.proofs.numbers.put_scaling.Goals as goal
 pub returns : goal.returns
 unfolding scaling_numbers naturals flags
 returns c =
-    put_then (put_then (put_then (put_then c.put-pred_at.ensures.0 c.put-delta_at.ensures.0) c.put-dc_at.ensures.0) (rw (map-id c.args.d.now.dc_coef) at c.put-lists_at.ensures.0)) (rw (map-id c.args.d.now.scaling_list) at c.put.ensures.0)
+    put_then (put_then (put_then (put_then c.put.ensures.0 c.put-2.ensures.0) c.put-3.ensures.0) (rw (map-id c.args.d.now.dc_coef) at c.put-4.ensures.0)) (rw (map-id c.args.d.now.scaling_list) at c.put-5.ensures.0)

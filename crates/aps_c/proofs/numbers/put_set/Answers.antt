@@ -6,4 +6,4 @@ use Rattle.aps_c.proofs.numbers.put_set.Goals as goal
 pub returns : goal.returns
 unfolding numbers naturals
 returns c =
-    put_then (put_then (put_then ((rw (c.from.ensures, c.from-2.ensures, flag-byte c.args.set.now.aps_chroma_present_flag, c.from-3.ensures, flag-byte c.args.set.now.aps_extension_flag) at c.put-alf_at.ensures.0)) c.put_alf-lmcs_at.ensures.0) c.put_lmcs-scaling_at.ensures.0) c.put_scaling.ensures
+    (put_then (put_then (put_then ((rw (c.from.ensures, c.from-2.ensures, flag-byte c.args.set.now.aps_chroma_present_flag, c.from-3.ensures, flag-byte c.args.set.now.aps_extension_flag) at c.put.ensures.0)) c.put_alf.ensures.0) c.put_lmcs.ensures.0) c.put_scaling.ensures).holds

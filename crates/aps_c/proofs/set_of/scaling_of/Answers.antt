@@ -1,7 +1,19 @@
 -- `scaling_of`: each field from its place.
+use mathlib.Core.Path.{◌≡◌}
+use native.Mathlib.Omega.{arith}
 use Rattle.aps_c.specs.SetOf.{scaling_of}
 use Rattle.aps_c.proofs.set_of.scaling_of.Goals as goal
 
 pub returns : goal.returns
 unfolding scaling_of
-returns c = rw (c.fields_at.ensures, c.fields_at-2.ensures, c.fields_at-3.ensures, c.fields_at-4.ensures, c.fields_at-5.ensures)
+returns c =
+    let a₂ : c.take_array.new.at ≡ 1260 = omega arith in
+    let a₃ : c.take_array-2.new.at ≡ 1288 = omega arith in
+    let a₄ : c.take_array-3.new.at ≡ 1316 = omega arith in
+    let a₅ : c.take_array-4.new.at ≡ 1330 = omega arith in
+    let v₁ = rw c.requires at c.take_array.ensures.0 in
+    let v₂ = rw a₂ at c.take_array-2.ensures.0 in
+    let v₃ = rw a₃ at c.take_array-3.ensures.0 in
+    let v₄ = rw a₄ at c.take_array-4.ensures.0 in
+    let v₅ = rw a₅ at c.take_array-5.ensures.0 in
+    rw (v₁, v₂, v₃, v₄, v₅)

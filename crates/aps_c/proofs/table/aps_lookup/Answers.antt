@@ -8,7 +8,7 @@ pub returns-in-Ok : goal.returns-in-Ok
 unfolding look_code set_left
 returns-in-Ok c =
     let o = sym (ap lookup_answer c.in-Ok.is) ∙ c.lookup.ensures in
-    record { code = ap look_code o; set = c.put_set.ensures.holds ∙ ap (λ x. set_left x c.args.set.now) o }
+    record { code = ap look_code o; set = c.put_set.ensures ∙ ap (λ x. set_left x c.args.set.now) o }
 
 pub returns-in-Err : goal.returns-in-Err
 unfolding look_code set_left

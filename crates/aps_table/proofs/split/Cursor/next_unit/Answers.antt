@@ -2,7 +2,7 @@
 use mathlib.Core.Path.{refl, ◌∙◌}
 use native.Mathlib.Omega.{arith}
 use Prim.Native.Nat.{◌+◌}
-use Rattle.aps_table.proofs.SplitTurns.{next-end, next-other, next-few, next-starts}
+use Rattle.aps_table.proofs.SplitTurns.{next-end, next-other, next-few, next-starts, end-after}
 use Rattle.aps_table.proofs.split.Cursor.next_unit.Goals as goal
 
 pub returns-then-i-s : goal.returns-then-i-s
@@ -21,7 +21,7 @@ returns-then-i-from-lt2 c =
 pub returns : goal.returns
 returns c =
     let k = c.skip_zeros-i.ensures in
-    let u = c.unit_end-end.ensures in
+    let u = end-after _ _ _ (omega (arith, k.to, c.if-i-s.false)) c.unit_end.ensures in
     record {
       start = c.skip_zeros-i.result + 1;
       unit = record {

@@ -1,6 +1,6 @@
 -- `unit_end`: the unit goes on up to e.
 use Rattle.aps_table.proofs.SplitTurns.{goes_on}
-use Rattle.aps_table.proofs.split.Cursor.unit_end.Goals as goal
+use Rattle.aps_table.proofs.unit_end.unit_end.Goals as goal
 
 pub loop-next-preserved : goal.loop-next-preserved
 loop-next-preserved c =

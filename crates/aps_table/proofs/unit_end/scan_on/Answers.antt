@@ -1,7 +1,7 @@
 -- `scan_on`: the third byte, the second, the first, or a start code.
 use native.Mathlib.Omega.{arith}
 use Rattle.aps_table.proofs.SplitTurns.{on_one, on-two, on-three, at_code}
-use Rattle.aps_table.proofs.split.Cursor.scan_on.Goals as goal
+use Rattle.aps_table.proofs.unit_end.scan_on.Goals as goal
 
 pub returns-then-s-e-gt1 : goal.returns-then-s-e-gt1
 returns-then-s-e-gt1 c = on-three _ _ (omega arith) c.if-s-e-gt1.true
