@@ -1,62 +1,43 @@
 -- What each way through the code of the list comes to: the bytes in the buffer so far.
-use Rattle.std.specs.Prelude.{Result, Ok, Err, IfOk}
 use borrow.Author.Tests.{le-ltb}
 use borrow.Rule.Slice.PartMut.{mid_of, put_mid}
 use mathlib.Core.Path.{◌≡◌, refl, sym, ap, ◌∙◌}
-use mathlib.Core.Bool.{Bool, true, false, cond}
 use mathlib.Core.List.{List, [], ◌∷◌, ◌++◌, append_assoc}
 use mathlib.Core.Option.{Option, none, some}
 use Prim.Native.Nat.{ℕ, suc, ◌+◌, ◌-◌, ◌*◌, ◌/◌, ◌≤◌}
 use native.Mathlib.Omega.{arith}
-use lib.Dec.{ltb}
-use lib.ListN.{length, take, drop, length-take, length-drop}
+use lib.ListN.{length, take, drop, length-drop}
 use lib.Seq.{drop-drop, length-take-le, take-append-le, take-append-add, take-append_seam, take-take, drop_at}
 use Rattle.bitstream.specs.Outcome.{Outcome, value, refused, left, ◌then◌}
 use Rattle.bitstream.specs.Escapes.{put_bytes}
-use Rattle.bitstream.specs.declared.Refusal.{Refusal}
 use Rattle.bitstream.proofs.CodeLaws.{value-refused}
 use Rattle.bitstream.proofs.EscapeLaws.{escape-most}
 use Rattle.bitstream.proofs.WriteLaws.{wrote}
 use Rattle.aps.specs.Kinds.{most_bytes}
 use Rattle.aps.specs.declared.aps.VvcAps.{VvcAps}
-use Rattle.aps.specs.Unit.{is_aps}
 use Rattle.aps.specs.Writing.{unit_of, write_nal}
-use Rattle.aps.proofs.UnitWrites.{put-value}
-use Rattle.aps_table.specs.Places.{Entries, names, held, kind_in}
+use Rattle.aps_table.specs.Places.{names, held, kind_in}
 use Rattle.aps_table.specs.List.{coded, entry, entry_due, joined, listed, write_list}
-use Rattle.aps_table.specs.Inner.{up_to, most_listed, list_bytes}
-use Rattle.aps_table.proofs.ListLaws.{joined-first, joined-last, joined-joined, listed-due, entry-most}
+use Rattle.aps_table.specs.Inner.{so_far, most_listed}
+use Rattle.aps_table.specs.declared.list.CutList.{CutList}
+use Rattle.aps_table.specs.declared.list.TheConstants.{LIST_BYTES}
+use Rattle.aps_table.proofs.ListLaws.{held-some, joined-first, joined-last, joined-joined, listed-due, entry-most}
 
 -- ---- a unit after its start code
-
--- a unit that was written from place s of a buffer on ends in it
-pub nal-within : (bytes : List ℕ) (type : ℕ) (out : List ℕ) (s : ℕ) (last : List ℕ) (n : ℕ) → value last n ≡ write_nal bytes type (mid_of s (length out - s) out) → s ≤ length out → s + n ≤ length out
-unfolding write_nal
-nal-within bytes type out s last n e h = go (is_aps type) (ltb 65536 (length bytes)) e
-  where
-    rest : List ℕ
-    rest = mid_of s (length out - s) out
-
-    go : (a b : Bool) → value last n ≡ cond a (cond b (refused 4) (put_bytes rest (unit_of type bytes))) (refused 2) → s + n ≤ length out
-    go true true e = absurd (value-refused e)
-    go true false e =
-        let (w, k, l) = put-value rest (unit_of type bytes) last n e in
-        omega (arith, k, l, h, length-take (length out - s) (drop s out))
-    go false b e = absurd (value-refused e)
 
 -- the buffer with a start code at p, and `last` after it
 abbrev with_code : List ℕ → ℕ → List ℕ → List ℕ
 with_code out p last =
-    put_mid p (p + 4 - p) (put_mid (p + 4) (length out - (p + 4)) out last) (0 ∷ 0 ∷ 0 ∷ 1 ∷ [])
+    put_mid p (p + 4 - p) (put_mid (p + 4) (LIST_BYTES - (p + 4)) out last) (0 ∷ 0 ∷ 0 ∷ 1 ∷ [])
 
-module _ (out : List ℕ) (p : ℕ) (bytes : List ℕ) (h : (p + (6 + length bytes * 3 / 2) ≤ length out) × (length bytes ≤ most_bytes 2)) where
+module _ (out : List ℕ) (p : ℕ) (bytes : List ℕ) (size : length out ≡ LIST_BYTES) (h : (p + (6 + length bytes * 3 / 2) ≤ LIST_BYTES) × (length bytes ≤ most_bytes 2)) where
   -- the unit of the bytes
   abbrev unit : List ℕ
   unit = unit_of 17 bytes
 
   -- the buffer after the start code
   abbrev rest : List ℕ
-  rest = mid_of (p + 4) (length out - (p + 4)) out
+  rest = mid_of (p + 4) (LIST_BYTES - (p + 4)) out
 
   -- the unit after a start code is not too long
   unit-small : 4 + length unit ≤ 6 + length bytes * 3 / 2
@@ -67,18 +48,25 @@ module _ (out : List ℕ) (p : ℕ) (bytes : List ℕ) (h : (p + (6 + length byt
   unit-room : write_nal bytes 17 rest ≡ value (unit ++ drop (length unit) rest) (length unit)
   unfolding write_nal put_bytes
   unit-room =
-      let m : length rest ≡ length out - (p + 4) = length-take-le (length out - (p + 4)) (drop (p + 4) out) (omega (arith, h, length-drop (p + 4) out)) in
+      let m : length rest ≡ LIST_BYTES - (p + 4) = length-take-le (LIST_BYTES - (p + 4)) (drop (p + 4) out) (omega (arith, h, length-drop (p + 4) out)) in
       rw (le-ltb 65536 (length bytes) (omega (arith, h)), le-ltb (length rest) (length unit) (omega (arith, h, unit-small)))
 
   -- so no refusal comes
-  pub unit-refused : (n : ℕ) → refused n ≡ write_nal bytes 17 rest → refused n ≡ joined (value (take p out) p) (value (coded bytes) (length (coded bytes)))
-  unit-refused n f = absurd (value-refused (sym (f ∙ unit-room)))
+  pub unit-refused : (n : ℕ) → refused n ≡ write_nal bytes 17 rest → ⊥
+  unit-refused n f = value-refused (sym (f ∙ unit-room))
+
+  -- it ends in the buffer
+  pub unit-within : (last : List ℕ) (n : ℕ) → value last n ≡ write_nal bytes 17 rest → p + 4 + n ≤ LIST_BYTES
+  unit-within last n f =
+      let g = f ∙ unit-room in
+      let k : n ≡ length unit = cc in
+      omega (arith, h, unit-small)
 
   -- the start code stands before what was put
   code_put : (more : List ℕ) → take (p + 4 + length unit) (with_code out p (unit ++ more)) ≡ take p out ++ coded bytes
   code_put more =
       let s : List ℕ = 0 ∷ 0 ∷ 0 ∷ 1 ∷ [] in
-      let post : List ℕ = more ++ drop (length out - (p + 4)) (drop (p + 4) out) in
+      let post : List ℕ = more ++ drop (LIST_BYTES - (p + 4)) (drop (p + 4) out) in
       let l : List ℕ = take (p + 4) out ++ (unit ++ post) in
       let n₄ : length (take (p + 4) out) ≡ p + 4 = length-take-le (p + 4) out (omega (arith, h)) in
       let n : length (take p out) ≡ p = length-take-le p out (omega (arith, h)) in
@@ -86,7 +74,7 @@ module _ (out : List ℕ) (p : ℕ) (bytes : List ℕ) (h : (p + (6 + length byt
       let d : drop (p + 4) l ≡ unit ++ post = drop_at (take (p + 4) out) (unit ++ post) (p + 4) n₄ in
       let e : p + 4 - p ≡ 4 = omega arith in
       let m : p + 4 + length unit ≡ length (take p out) + suc (suc (suc (suc (length unit)))) = omega arith in
-      rw (append_assoc unit more (drop (length out - (p + 4)) (drop (p + 4) out)), e, drop-drop 4 p l, t, d, m, take-append-add (take p out) (s ++ (unit ++ post)) (suc (suc (suc (suc (length unit))))), take-append_seam unit post)
+      rw (append_assoc unit more (drop (LIST_BYTES - (p + 4)) (drop (p + 4) out)), e, drop-drop 4 p l, t, d, m, take-append-add (take p out) (s ++ (unit ++ post)) (suc (suc (suc (suc (length unit))))), take-append_seam unit post)
 
   -- the start code and the unit after it
   pub unit-put : (last : List ℕ) (n : ℕ) → value last n ≡ write_nal bytes 17 rest
@@ -101,13 +89,11 @@ module _ (out : List ℕ) (p : ℕ) (bytes : List ℕ) (h : (p + (6 + length byt
 -- ---- a place
 
 -- the entry that was put has at most the place's bytes
-pub entry-within : (k p : ℕ) (b : Option VvcAps) (r : Result ℕ Refusal) (last l : List ℕ) → ((a : VvcAps) → b ≡ some a → kind_in a ≡ k) → up_to r last ≡ joined (value l p) (entry b)
-    → IfOk r (λ q. q ≤ p + most_listed k)
-entry-within k p b (Err n) last l w e = tt
-entry-within k p none (Ok q) last l w e = let s : q ≡ p + 0 = cc in omega arith
-entry-within k p (some a) (Ok q) last l w e = go (entry_due a) refl e
+entry-within : (k p : ℕ) (b : Option VvcAps) (m l : List ℕ) (q : ℕ) → ((a : VvcAps) → b ≡ some a → kind_in a ≡ k) → value m q ≡ joined (value l p) (entry b) → q ≤ p + most_listed k
+entry-within k p none m l q w e = let s : q ≡ p + 0 = cc in omega arith
+entry-within k p (some a) m l q w e = go (entry_due a) refl e
   where
-    go : (o : Outcome (List ℕ)) → entry_due a ≡ o → value (take q last) q ≡ joined (value l p) o → q ≤ p + most_listed k
+    go : (o : Outcome (List ℕ)) → entry_due a ≡ o → value m q ≡ joined (value l p) o → q ≤ p + most_listed k
     go (value m n) f e =
         let s : q ≡ p + n = cc in
         let b : n ≤ most_listed k = rw (w a refl) at (entry-most a m n f) in
@@ -122,47 +108,47 @@ room [] = 0
 room (n ∷ ns) = most_listed n.0 + room ns
 
 -- what the places from `index` on have to be put after comes to the whole list
-pub record Listing (b : Entries) (l : List ℕ) (at index : ℕ) : Type 0 where
-  pub room-left : at + room (drop index names) ≤ list_bytes
-  pub whole : joined (value (take at l) at) (listed (drop index names) b) ≡ listed names b
+pub record Listing (t : List ℕ) (list : CutList) (index : ℕ) : Type 0 where
+  pub room-left : list.len + room (drop index names) ≤ LIST_BYTES
+  pub whole : joined (so_far list) (listed (drop index names) (held t)) ≡ listed names (held t)
 
 -- no place's unit has been put
-pub listing-start : (b : Entries) (l : List ℕ) → Listing b l 0 0
+pub listing-start : (t : List ℕ) (list : CutList) → list.len ≡ 0 → Listing t list 0
 unfolding room
-listing-start b l = record { room-left = omega arith; whole = joined-first (listed names b) }
+listing-start t list h = record { room-left = omega (arith, h); whole = rw h (joined-first (listed names (held t))) }
 
-module _ {b : Entries} {l : List ℕ} {at index : ℕ} (L : Listing b l at index) (n : ℕ × ℕ) (s : drop index names ≡ n ∷ drop (index + 1) names) where
+module _ {t : List ℕ} {list : CutList} {index : ℕ} (L : Listing t list index) (n : ℕ × ℕ) (s : drop index names ≡ n ∷ drop (index + 1) names) where
   -- the next one has room
-  pub listing-room : at + most_listed n.0 + room (drop (index + 1) names) ≤ list_bytes
+  pub listing-room : list.len + most_listed n.0 + room (drop (index + 1) names) ≤ LIST_BYTES
   unfolding room
   listing-room =
-      let w : at + (most_listed n.0 + room (drop (index + 1) names)) ≤ list_bytes = rw s at L.room-left in
+      let w : list.len + (most_listed n.0 + room (drop (index + 1) names)) ≤ LIST_BYTES = rw s at L.room-left in
       omega arith
 
   -- it comes first
-  next-whole : joined (joined (value (take at l) at) (entry (b n.0 n.1))) (listed (drop (index + 1) names) b) ≡ listed names b
+  next-whole : joined (joined (so_far list) (entry (held t n.0 n.1))) (listed (drop (index + 1) names) (held t)) ≡ listed names (held t)
   unfolding listed
   next-whole =
-      let w : joined (value (take at l) at) (joined (entry (b n.0 n.1)) (listed (drop (index + 1) names) b)) ≡ listed names b = rw s at L.whole in
-      joined-joined (value (take at l) at) (entry (b n.0 n.1)) (listed (drop (index + 1) names) b) ∙ w
+      let w : joined (so_far list) (joined (entry (held t n.0 n.1)) (listed (drop (index + 1) names) (held t))) ≡ listed names (held t) = rw s at L.whole in
+      joined-joined (so_far list) (entry (held t n.0 n.1)) (listed (drop (index + 1) names) (held t)) ∙ w
 
   -- it was put
-  pub listing-next : (last : List ℕ) (q : ℕ) → value (take q last) q ≡ joined (value (take at l) at) (entry (b n.0 n.1)) → q ≤ at + most_listed n.0 → Listing b last q (index + 1)
-  listing-next last q e h = record {
-    room-left = omega (arith, listing-room, h);
-    whole = ap (λ (o : Outcome (List ℕ)). joined o (listed (drop (index + 1) names) b)) e ∙ next-whole;
+  pub listing-next : (last : CutList) → so_far last ≡ joined (so_far list) (entry (held t n.0 n.1)) → Listing t last (index + 1)
+  listing-next last e = record {
+    room-left = omega (arith, listing-room, entry-within n.0 list.len (held t n.0 n.1) _ _ last.len (λ a g. (held-some t n.0 n.1 a g).0) e);
+    whole = ap (λ (o : Outcome (List ℕ)). joined o (listed (drop (index + 1) names) (held t))) e ∙ next-whole;
   }
 
   -- it was refused
-  pub listing-refused : (e : ℕ) → refused e ≡ joined (value (take at l) at) (entry (b n.0 n.1)) → refused e ≡ listed names b
-  listing-refused e f = ap (λ (o : Outcome (List ℕ)). joined o (listed (drop (index + 1) names) b)) f ∙ next-whole
+  pub listing-refused : (e : ℕ) → refused e ≡ joined (so_far list) (entry (held t n.0 n.1)) → refused e ≡ listed names (held t)
+  listing-refused e f = ap (λ (o : Outcome (List ℕ)). joined o (listed (drop (index + 1) names) (held t))) f ∙ next-whole
 
 -- all have been put
-pub listing-done : {b : Entries} {l : List ℕ} {at index : ℕ} → Listing b l at index → index ≡ 20 → value (take at l) at ≡ listed names b
+pub listing-done : {t : List ℕ} {list : CutList} {index : ℕ} → Listing t list index → index ≡ 20 → so_far list ≡ listed names (held t)
 unfolding listed
-listing-done {l} {at} L h =
+listing-done {list} L h =
     let w = rw h at L.whole in
-    sym (joined-last (value (take at l) at)) ∙ w
+    sym (joined-last (so_far list)) ∙ w
 
 -- ---- the list
 

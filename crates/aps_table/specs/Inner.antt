@@ -4,10 +4,10 @@ use Rattle.bitstream.specs.declared.Refusal.TheVariants.{InvalidData}
 use Rattle.std.specs.Prelude.{ℕ, ◌+◌, ◌-◌, ◌*◌, ◌/◌, ◌≤◌, ◌<◌, ◌≡◌, Bool, true, false, List, [], length, get_or, take, drop, Option, None, Some, Result, Ok, Err}
 use Rattle.std.proofs.Math.Option.{none, some}
 use Rattle.bitstream.specs.Outcome.{Outcome, value, refused, number}
-use Rattle.aps.specs.Kinds.{largest_id, most_bytes}
+use Rattle.aps.specs.Kinds.{most_bytes}
+use Rattle.aps_table.specs.declared.list.CutList.{CutList}
 use Rattle.aps_table.specs.declared.split.Unit.{Unit as Next}
 use Rattle.aps_table.specs.Split.{Units, prepend, ended, gap, body}
-use Rattle.aps_table.specs.Places.{offset}
 
 -- ---- the split, step by step from places of the stream
 
@@ -75,15 +75,15 @@ units_of (some us) = us
 
 -- ---- the list, put together in a buffer
 
--- the bytes that an answer says stand there
-abbrev pub up_to : Result ℕ Refusal → List ℕ → Outcome (List ℕ)
-up_to (Ok n) l = value (take n l) n
-up_to (Err e) l = refused (number e)
+-- its bytes so far, and how many they are
+abbrev pub so_far : CutList → Outcome (List ℕ)
+so_far l = value (take l.len l.buffer) l.len
+
+-- what a put gives: the list with what was put, or the refusal's number
+abbrev pub written : Result (Unit {0}) Refusal → CutList → Outcome (List ℕ)
+written (Ok x) l = so_far l
+written (Err e) l = refused (number e)
 
 -- the most bytes of a unit in the list: start code, header, and the RBSP with escapes put in
 abbrev pub most_listed : ℕ → ℕ
 most_listed k = 6 + most_bytes k * 3 / 2
-
--- no list is longer
-abbrev pub list_bytes : ℕ
-list_bytes = offset most_listed 2 (largest_id 2 + 1)

@@ -25,15 +25,11 @@ names = ids 0 0 (largest_id 0 + 1) ++ (ids 1 0 (largest_id 1 + 1) ++ ids 2 0 (la
 
 -- ---- the bytes
 
--- places of `size k` bytes for each id of kind k, kind rising, then id rising: where that of id i begins
-abbrev pub offset : (ℕ → ℕ) → ℕ → ℕ → ℕ
-offset size zero i = i * size 0
-offset size (suc zero) i = (largest_id 0 + 1) * size 0 + i * size 1
-offset size (suc (suc k)) i = (largest_id 0 + 1) * size 0 + (largest_id 1 + 1) * size 1 + i * size 2
-
--- a place has the most bytes that a set of its kind takes
+-- each place has the most bytes that a set of its kind takes, kind rising, then id rising: where that of kind k and id i begins
 abbrev pub place_at : ℕ → ℕ → ℕ
-place_at k i = offset most_bytes k i
+place_at zero i = i * most_bytes 0
+place_at (suc zero) i = (largest_id 0 + 1) * most_bytes 0 + i * most_bytes 1
+place_at (suc (suc k)) i = (largest_id 0 + 1) * most_bytes 0 + (largest_id 1 + 1) * most_bytes 1 + i * most_bytes 2
 
 -- up to the end of the last place
 abbrev pub table_bytes : ℕ

@@ -1,11 +1,11 @@
 // The list at a cut: every filled place as a unit in the byte stream form, kind rising, then id rising.
-ghost use Rattle.std.specs.Prelude.{◌≡◌, ◌+◌, ◌*◌, ◌/◌, ◌≤◌, eqb, length, Ok, IfOk};
+ghost use Rattle.std.specs.Prelude.{◌≡◌, ◌+◌, ◌*◌, ◌/◌, ◌≤◌, eqb, length, take};
 ghost use Rattle.bitstream.specs.Outcome.{left, value, outcome_written};
 ghost use Rattle.aps.specs.ApsSyntax.{number_of};
 ghost use Rattle.aps.specs.Kinds.{most_bytes};
+ghost use Rattle.aps_table.specs.declared.list.TheConstants.{LIST_BYTES};
 ghost use Rattle.aps_table.specs.Places.{names, held, present, filled};
 ghost use Rattle.aps_table.specs.List.{coded, entry, joined, listed, write_list};
-ghost use Rattle.aps_table.specs.Inner.{up_to, most_listed, list_bytes};
 
 use crate::places::{ALF_PLACES, LMCS_PLACES, PLACES, Place, SCALING_PLACES, Table};
 use crate::table::head_held;
@@ -19,52 +19,74 @@ pub const LIST_BYTES: usize = ALF_PLACES * (6 + Alf::MAX_BYTES * 3 / 2)
     + LMCS_PLACES * (6 + Lmcs::MAX_BYTES * 3 / 2)
     + SCALING_PLACES * (6 + Scaling::MAX_BYTES * 3 / 2);
 
-// An RBSP as a unit of type 17 after a start code, from byte `at` of the buffer on.
-fn put_unit(buffer: &mut [u8], at: usize, rbsp: &[u8]) -> Result<usize, Refusal>
-    requires { (at + (6 + length rbsp.now * 3 / 2) ≤ length buffer.old) × (length rbsp.now ≤ most_bytes 2) }
-    ensures buffer_after { up_to result buffer.new ≡
-        joined (up_to (Ok at) buffer.old) (value (coded rbsp.now) (length (coded rbsp.now))) }
-    ensures same { length buffer.new ≡ length buffer.old }
-{
-    let start = at + 4;
-    let n = write_nal(rbsp, NAL_TYPE_PREFIX_APS, &mut buffer[start..])?;
-    buffer[at..start].copy_from_slice(&[0, 0, 0, 1]);
-    Ok(start + n)
+// The list so far, in a buffer that has room for any.
+#[derive(Drop)]
+struct CutList {
+    buffer: [u8; LIST_BYTES],
+    len: usize,
+    ghost within: { len ≤ LIST_BYTES },
 }
 
-// The set of a place, if it has one: with extension flag 0 it is written as the bytes that were read.
-fn put_place(table: &Table, place: Place, buffer: &mut [u8], at: usize) -> Result<usize, Refusal>
-    requires { at + most_listed (number_of place.kind) ≤ length buffer.old }
-    ensures buffer_after { up_to result buffer.new ≡
-        joined (up_to (Ok at) buffer.old) (entry (held table.now (number_of place.kind) place.id)) }
-    ensures within { IfOk result (λ n. n ≤ at + most_listed (number_of place.kind)) }
-    ensures same { length buffer.new ≡ length buffer.old }
-{
-    let bytes = place.bytes(table);
-    if let Ok(reading) = parse_aps_head(bytes) {
-        let head = reading.value;
-        if place.is_of(head.kind, head.aps_adaptation_parameter_set_id) {
-            if head.aps_extension_flag {
-                return Err(Refusal::Unsupported);
-            }
-            return put_unit(buffer, at, &bytes[..reading.end / 8]);
+impl CutList {
+    ghost use Rattle.aps_table.specs.Inner.{so_far, written, most_listed};
+
+    // Nothing is in it yet.
+    fn new() -> Self
+        ensures { result.len ≡ 0 }
+    {
+        CutList {
+            buffer: [0; LIST_BYTES],
+            len: 0,
         }
     }
-    Ok(at)
-}
 
-// All 20 places.
-fn put_all(table: &Table, buffer: &mut [u8]) -> Result<usize, Refusal>
-    requires { length buffer.old ≡ list_bytes }
-    ensures buffer_after { up_to result buffer.new ≡ listed names (held table.now) }
-    ensures within { IfOk result (λ n. n ≤ list_bytes) }
-    ensures same { length buffer.new ≡ list_bytes }
-{
-    let mut at = 0;
-    for index in 0..PLACES {
-        at = put_place(table, Place::nth(index), buffer, at)?;
+    // An RBSP as a unit of type 17 after a start code, put at the end.
+    fn put_unit(&mut self, rbsp: &[u8]) -> Result<(), Refusal>
+        requires { (self.old.len + (6 + length rbsp.now * 3 / 2) ≤ LIST_BYTES) × (length rbsp.now ≤ most_bytes 2) }
+        ensures { written result self.new ≡ joined (so_far self.old) (value (coded rbsp.now) (length (coded rbsp.now))) }
+    {
+        let start = self.len + 4;
+        let n = write_nal(rbsp, NAL_TYPE_PREFIX_APS, &mut self.buffer[start..])?;
+        self.buffer[self.len..start].copy_from_slice(&[0, 0, 0, 1]);
+        self.len = start + n;
+        Ok(())
     }
-    Ok(at)
+
+    // The set of a place, if it has one: with extension flag 0 it is written as the bytes that were read.
+    fn put_place(&mut self, table: &Table, place: Place) -> Result<(), Refusal>
+        requires { self.old.len + most_listed (number_of place.kind) ≤ LIST_BYTES }
+        ensures { written result self.new ≡ joined (so_far self.old) (entry (held table.now (number_of place.kind) place.id)) }
+    {
+        let bytes = place.bytes(table);
+        if let Ok(reading) = parse_aps_head(bytes) {
+            let head = reading.value;
+            if place.is_of(head.kind, head.aps_adaptation_parameter_set_id) {
+                if head.aps_extension_flag {
+                    return Err(Refusal::Unsupported);
+                }
+                return self.put_unit(&bytes[..reading.end / 8]);
+            }
+        }
+        Ok(())
+    }
+
+    // All 20 places.
+    fn put_all(&mut self, table: &Table) -> Result<(), Refusal>
+        requires { self.old.len ≡ 0 }
+        ensures { written result self.new ≡ listed names (held table.now) }
+    {
+        for index in 0..PLACES {
+            self.put_place(table, Place::nth(index))?;
+        }
+        Ok(())
+    }
+
+    // Its bytes.
+    fn bytes(&self) -> &[u8]
+        ensures { result.now ≡ take self.now.len self.now.buffer }
+    {
+        &self.buffer[..self.len]
+    }
 }
 
 // Whether a place holds a set; its first byte tells most that do not.
@@ -97,7 +119,7 @@ pub fn write_list(table: &Table, out: &mut [u8]) -> Result<usize, Refusal>
     if is_bare(table) {
         return Ok(0);
     }
-    let mut buffer = [0u8; LIST_BYTES];
-    let n = put_all(table, &mut buffer)?;
-    copy_out(&buffer[..n], out)
+    let mut list = CutList::new();
+    list.put_all(table)?;
+    copy_out(list.bytes(), out)
 }

@@ -4,7 +4,7 @@ use mathlib.Core.Bool.{true}
 use mathlib.Core.Option.{some}
 use native.Mathlib.Omega.{arith}
 use Prim.Native.Nat.{◌/◌}
-use lib.ListN.{take, length-take}
+use lib.ListN.{length-take}
 use lib.Seq.{length-take-le}
 use Rattle.bitstream.specs.Outcome.{value}
 use Rattle.aps.specs.ApsSyntax.{number_of}
@@ -14,12 +14,11 @@ use Rattle.aps.proofs.Answers.{Made, made, unmade}
 use Rattle.aps.proofs.RbspLaws.{rbsp-end}
 use Rattle.aps_table.specs.Places.{under, held}
 use Rattle.aps_table.specs.List.{joined}
+use Rattle.aps_table.specs.Inner.{so_far}
 use Rattle.aps_table.proofs.PlaceSteps.{names-of, place-few, place-bytes, under-other, under-own}
-use Rattle.aps_table.proofs.ListLaws.{held-some}
-use Rattle.aps_table.proofs.ListSteps.{entry-within}
 use Rattle.aps_table.proofs.HeldSteps.{as-read, held-as, own-head, held_none, held-extended, held_plain}
-use Rattle.aps_table.proofs.list.put_place.Goals as goal
-use Rattle.aps_table.proofs.list.put_place.Goals.{In-Ok, After-is_of}
+use Rattle.aps_table.proofs.list.CutList.put_place.Goals as goal
+use Rattle.aps_table.proofs.list.CutList.put_place.Goals.{In-Ok, After-is_of}
 
 -- the set that was read
 abbrev read-set : (c : In-Ok) → let r = c.in-Ok.reading in Made head_of r.value r.end (parse_aps_rbsp c.bytes-bytes.result.now)
@@ -38,10 +37,10 @@ held_own c f =
     let m = made head_of _ c.in-Ok.ensures in
     held-as c.args.table.now _ k p.id (names-of p.kind p.id p.named) c.bytes-bytes.ensures ∙ under-own k p.id m.from m.read (c.is_of.ensures ∙ own-head k p.id m.from m.is) f
 
-pub returns-then-head-clause-buffer_after : goal.returns-then-head-clause-buffer_after
-returns-then-head-clause-buffer_after c =
+pub returns-then-head : goal.returns-then-head
+returns-then-head c =
     let m = made head_of _ c.in-Ok.ensures in
-    held-extended _ _ _ (held_own (goal.at.returns-then-head-clause-buffer_after c).After-is_of c.if-is_of.true) (ap (λ h. h.aps_extension_flag) (sym m.is) ∙ c.if-head.true)
+    held-extended _ _ _ (held_own (goal.at.returns-then-head c).After-is_of c.if-is_of.true) (ap (λ h. h.aps_extension_flag) (sym m.is) ∙ c.if-head.true)
 
 pub slice_bounds-put_unit-end : goal.slice_bounds-put_unit-end
 slice_bounds-put_unit-end c =
@@ -64,19 +63,18 @@ returns-then-is_of c =
     let k = number_of p.kind in
     let x = ap (λ h. h.aps_extension_flag) (sym m.is) ∙ c.if-head.false in
     let w = held_plain _ _ _ (was_read v.In-Ok) (held_own v.After-is_of c.if-is_of.true) x (rw c.bytes-bytes.ensures (place-bytes t k p.id c.fits-table)) in
-    let u = c.put_unit.ensures.buffer_after ∙ ap (joined (value (take c.args.at c.args.buffer.now) c.args.at)) (sym w) in
-    record { buffer_after = u; within = entry-within k c.args.at (held t k p.id) _ _ _ (λ a g. (held-some t k p.id a g).0) u; same = c.put_unit.ensures.same }
+    c.put_unit.ensures ∙ ap (joined (so_far c.args.self.now)) (sym w)
 
-pub returns-else-is_of-clause-buffer_after : goal.returns-else-is_of-clause-buffer_after
-returns-else-is_of-clause-buffer_after c =
+pub returns-else-is_of : goal.returns-else-is_of
+returns-else-is_of c =
     let p = c.args.place in
     let k = number_of p.kind in
     let m = made head_of _ c.in-Ok.ensures in
     let h = held-as c.args.table.now _ k p.id (names-of p.kind p.id p.named) c.bytes-bytes.ensures in
     held_none _ _ (h ∙ under-other k p.id m.from m.read (c.is_of.ensures ∙ own-head k p.id m.from m.is) c.if-is_of.false)
 
-pub returns-in_default-clause-buffer_after : goal.returns-in_default-clause-buffer_after
-returns-in_default-clause-buffer_after c =
+pub returns-in_default : goal.returns-in_default
+returns-in_default c =
     let p = c.args.place in
     let k = number_of p.kind in
     let h = held-as c.args.table.now _ k p.id (names-of p.kind p.id p.named) c.bytes-bytes.ensures in
