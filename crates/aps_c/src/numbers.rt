@@ -63,7 +63,7 @@ fn put<T: Number>(src: &[T], out: &mut [i64; NUMBERS], at: &mut usize)
     *at = from + src.len();
 }
 
-// The records. As impls of one trait each would give its count and its numbers as members in place of two clauses, 2 lines more.
+// The records. As impls of one trait each would give its count and its numbers as members in place of two clauses, and be longer.
 fn put_luma(d: &VvcAlfLuma, out: &mut [i64; NUMBERS], at: &mut usize)
     requires { at.old ≤ 8 }
     ensures { Put out.old at.old (luma_numbers d.now) out.new at.new × (at.new ≡ at.old + 927) }

@@ -134,7 +134,7 @@ fn take_array<T: Field, const N: usize>(src: &[i64; NUMBERS], at: &mut usize) ->
     array::from_fn(|i| field_at(src, from + i))
 }
 
-// The records, each from index `at` on. As impls of one trait each would give its count, list and test as members besides, 6 lines more.
+// The records, each from index `at` on. As impls of one trait each would give its count, list and test as members besides, and be longer.
 #[tactic(auto, unfolding(crate::specs::SetOf::luma_of))]
 fn luma_of(src: &[i64; NUMBERS], at: &mut usize) -> VvcAlfLuma
     requires { at.old + 927 ≤ 3122 }
