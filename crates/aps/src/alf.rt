@@ -50,7 +50,7 @@ pub struct VvcAlfData {
     pub cc_cr: VvcAlfCcFilters,
 }
 
-// What is inferred where nothing is sent.
+// What is inferred where nothing is sent. Written out, the law is the description's record; derived, it would be one for each entry.
 impl Default for VvcAlfLuma {
     ghost is_default = { λ d. d ≡ to_luma no_luma.default };
 
@@ -133,7 +133,7 @@ fn read_alf_filters(reader: &mut Reader, d: &mut VvcAlfData) -> Result<(), Refus
     Ok(())
 }
 
-// alf_data().
+// alf_data(), of which the chroma flag is a parameter in H.266.
 pub(crate) fn parse_alf_data(
     reader: &mut Reader,
     chroma: bool,

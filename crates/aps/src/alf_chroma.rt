@@ -10,7 +10,7 @@ use crate::alf_fields::{clips_sent, read_clips, read_coefficients};
 use crate::reader::Reader;
 use bitstream::Refusal;
 
-// One alternative: its coefficients, and at once its clips. Those that are sent are read alike, whichever it is and however many there are.
+// One alternative, a row of three arrays of C's layout: its coefficients, and at once its clips. Those that are sent are read alike, whichever it is and however many there are.
 fn read_alternative(
     reader: &mut Reader,
     clip: bool,

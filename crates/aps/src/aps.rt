@@ -21,7 +21,7 @@ pub enum ApsKind {
     Scaling,
 }
 
-// Each kind's number, its largest id and the most bytes of its RBSP.
+// Each kind's number, its largest id and the most bytes of its RBSP, as constants on a type of its own: a form fixed for this place.
 #[derive(Clone, Copy)]
 pub struct Alf;
 

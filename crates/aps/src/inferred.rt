@@ -2,6 +2,7 @@
 ghost use Rattle.std.specs.Prelude.{◌≡◌, Bool, not, eqb};
 ghost use Rattle.aps.specs.Elements.{every};
 
+// No == with Default: their laws are relations, and the description asks a function of each entry.
 pub(crate) trait Inferred: Copy {
     ghost inferred: { Self → Bool };
 

@@ -54,7 +54,7 @@ pub trait Payload: Copy {
         → write_aps (alone a.aps_adaptation_parameter_set_id a.aps_chroma_present_flag a.aps_extension_flag (part a)) out ≡ write_aps a out };
 }
 
-// How it is read and written, field by field.
+// How it is read and written, field by field; by functions of each kind's own, since each has a syntax of its own in H.266.
 pub(crate) trait Coded: Copy + Default {
     ghost KIND: { ApsKind };
 

@@ -9,6 +9,7 @@ use bitstream::window::window;
 use bitstream::{Input, Refusal};
 
 // The `left` highest of `bits` are the bits from bit `at` on, zeros past the end.
+// Lent to its methods and not moved through them: a refusal leaves it where it was.
 #[derive(Clone, Copy)]
 pub(crate) struct Reader<'a> {
     bytes: &'a [u8],

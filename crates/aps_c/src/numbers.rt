@@ -11,7 +11,7 @@ use aps::scaling_list::VvcScalingListData;
 // Numbers that a set is made of.
 pub const NUMBERS: usize = 3122;
 
-// A field as a number.
+// A field as a number. The law of From is a relation, and a set's numbers are a list made by a function.
 trait Number: Copy {
     ghost number: { Self → ℤ };
 
@@ -51,7 +51,7 @@ impl Number for bool {
     }
 }
 
-// As many numbers as src has fields, from index `at` on, which is then the index after them.
+// As many numbers as src has fields, from index `at` on, which is then the index after them. The array is C's, lent beside it.
 fn put<T: Number>(src: &[T], out: &mut [i64; NUMBERS], at: &mut usize)
     requires { at.old + length src.now ≤ 3122 }
     ensures { Put out.old at.old (map T.number src.now) out.new at.new × (at.new ≡ at.old + length src.now) }

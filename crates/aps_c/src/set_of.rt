@@ -11,7 +11,7 @@ use aps::lmcs::VvcLmcsData;
 use aps::scaling_list::VvcScalingListData;
 use std::array;
 
-// A field, the least and the greatest number that it holds, and the field of a number; one that it can't hold reads as 0.
+// A field, the least and the greatest number that it holds, and the field of a number; one that it can't hold reads as 0. The law of TryFrom is a relation, and a set is made of a list by a function.
 trait Field: Sized {
     const LOW: i64;
 

@@ -142,14 +142,14 @@ fn set_held(table: &Table, place: Place) -> Result<VvcAps, Refusal>
     Err(Refusal::EmptyPlace)
 }
 
-// The set held for a kind and an id: 2; 6.
+// The set held for a kind and an id: 2; 6. C passes a kind's number, and one that is no kind's gets 2.
 pub fn lookup(table: &Table, kind: u8, id: u8) -> Result<VvcAps, Refusal>
     ensures { lookup_answer result ≡ looked_up table.now kind id }
 {
     set_held(table, Place::new(kind, id).ok_or(Refusal::InvalidData)?)
 }
 
-// The head of the set of a place, or 6.
+// The head of the set of a place, or 6. One body for it and the set would need a trait with an impl for each, and be longer.
 pub(crate) fn head_held(table: &Table, place: Place) -> Result<ApsHead, Refusal>
     ensures { head_answer result ≡ head_looked (found_in (held table.now (number_of place.kind) place.id)) }
 {

@@ -18,6 +18,7 @@ pub struct BitReader {
 }
 
 // A field: its value, the position after it, and whether bits were lacking.
+// No Option: the Rust gives a value where bits were lacking too.
 #[derive(Clone, Copy, Debug, PartialEq, Eq)]
 pub struct Field<T> {
     pub value: T,

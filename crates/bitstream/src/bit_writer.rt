@@ -55,6 +55,7 @@ fn put_field(out: &mut [u8], at: usize, v: u64, n: u32) -> Result<usize, Refusal
 }
 
 // The low n bits of value, from bit at on.
+// A lent array and a bit, here and below, as C hands them over.
 pub fn write_bits(out: &mut [u8], at: usize, value: u32, n: u32) -> Result<usize, Refusal>
     ensures answer { outcome_written result out.new ≡ write_bits_at out.old at value n }
     ensures bytes { out.new ≡ left out.old (write_bits_at out.old at value n) }

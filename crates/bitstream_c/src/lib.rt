@@ -26,7 +26,7 @@ fn unsigned(read: Result<Field<u32>, Refusal>, answer: &mut [u64; 3]) -> u32
     }
 }
 
-// The same of a signed field, whose place is one that an i64 holds: C lends an array of i64 here.
+// The same of a signed field, whose place is one that an i64 holds: C lends an array of i64 here, and a trait over both would be longer.
 fn signed(read: Result<Field<i32>, Refusal>, answer: &mut [i64; 3]) -> u32
     requires { PlaceFits (outcome_field read) }
     ensures code { result ≡ code (outcome_field read) }
