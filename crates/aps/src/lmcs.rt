@@ -1,5 +1,6 @@
 // lmcs_data(), H.266 7.3.2.19.
-ghost use Rattle.std.specs.Prelude.{◌≡◌, true, false, replicate};
+ghost use Rattle.std.specs.Prelude.{◌≡◌, true, false, replicate, IfOk, IfErr};
+ghost use Rattle.bitstream.specs.declared.Refusal.TheVariants.{InvalidData};
 ghost use Rattle.aps.specs.LmcsSyntax.{in_range, lmcs_head, lmcs_codewords, lmcs};
 ghost use Rattle.aps.specs.ApsSyntax.{zero_lmcs};
 ghost use Rattle.aps.specs.Reads.{filled, Reads};
@@ -36,7 +37,7 @@ impl Default for VvcLmcsData {
 }
 
 // Min 0..15; delta max 0..15 with 15 - delta max at least min; precision - 1 0..14.
-pub(crate) fn in_range(min: u32, max: u32, prec: u32) -> bool
+fn in_range(min: u32, max: u32, prec: u32) -> bool
     ensures { result ≡ in_range (min, (max, prec)) }
 {
     if 15 < min {
@@ -51,8 +52,31 @@ pub(crate) fn in_range(min: u32, max: u32, prec: u32) -> bool
     prec <= 14
 }
 
+// Which bins have a codeword and how wide it is: the smallest bin, the delta of the largest and the precision - 1, in range.
+#[derive(Clone, Copy)]
+pub(crate) struct Bins {
+    pub(crate) min: u32,
+    pub(crate) max: u32,
+    pub(crate) prec: u32,
+    ghost range: { in_range (min, (max, prec)) ≡ true },
+}
+
+impl Bins {
+    // 2: they are not in range.
+    pub(crate) fn new(min: u32, max: u32, prec: u32) -> Result<Self, Refusal>
+        ensures ok { IfOk result (λ bins. (bins.min ≡ min) × (bins.max ≡ max) × (bins.prec ≡ prec)) }
+        ensures err { IfErr result (λ why. (why ≡ InvalidData) × (in_range (min, (max, prec)) ≡ false)) }
+    {
+        if !in_range(min, max, prec) {
+            return Err(Refusal::InvalidData);
+        }
+        Ok(Bins { min, max, prec })
+    }
+}
+
 // The smallest bin, the delta of the largest one and the precision - 1: all three are read, then judged.
-fn read_head(reader: &mut Reader, d: &mut VvcLmcsData) -> Result<(), Refusal>
+fn read_head(reader: &mut Reader, d: &mut VvcLmcsData) -> Result<Bins, Refusal>
+    ensures bins { IfOk result (λ bins. (bins.min ≡ d.new.lmcs_min_bin_idx) × (bins.max ≡ d.new.lmcs_delta_max_bin_idx) × (bins.prec ≡ d.new.lmcs_delta_cw_prec_minus1)) }
     ensures field { Reads lmcs_head (filled result (d.new.lmcs_min_bin_idx, (d.new.lmcs_delta_max_bin_idx, d.new.lmcs_delta_cw_prec_minus1)) reader.new.at)
         reader.old reader.new }
     ensures others { (d.new.lmcs_delta_abs_cw ≡ d.old.lmcs_delta_abs_cw) × (d.new.lmcs_delta_sign_cw_flag ≡ d.old.lmcs_delta_sign_cw_flag)
@@ -61,30 +85,26 @@ fn read_head(reader: &mut Reader, d: &mut VvcLmcsData) -> Result<(), Refusal>
     let min = reader.ue()?;
     let max = reader.ue()?;
     let prec = reader.ue()?;
-    if !in_range(min, max, prec) {
-        return Err(Refusal::InvalidData);
-    }
+    let bins = Bins::new(min, max, prec)?;
     d.lmcs_min_bin_idx = min;
     d.lmcs_delta_max_bin_idx = max;
     d.lmcs_delta_cw_prec_minus1 = prec;
-    Ok(())
+    Ok(bins)
 }
 
 // Bins min to 15 - max, into arrays of zeros.
 fn read_codewords(
     reader: &mut Reader,
-    min: u32,
-    max: u32,
-    prec: u32,
+    bins: Bins,
     abs: &mut [u32; 16],
     sign: &mut [bool; 16],
 ) -> Result<(), Refusal>
-    requires { (in_range (min, (max, prec)) ≡ true) × (abs.old ≡ replicate 16 0) × (sign.old ≡ replicate 16 false) }
-    ensures { Reads (lmcs_codewords (min, (max, prec))) (filled result (abs.new, sign.new) reader.new.at) reader.old reader.new }
+    requires { (abs.old ≡ replicate 16 0) × (sign.old ≡ replicate 16 false) }
+    ensures { Reads (lmcs_codewords (bins.min, (bins.max, bins.prec))) (filled result (abs.new, sign.new) reader.new.at) reader.old reader.new }
 {
     let mut held = *reader;
-    for i in min as usize..16 - max as usize {
-        let (magnitude, negative) = held.signed(prec + 1)?;
+    for i in bins.min as usize..16 - bins.max as usize {
+        let (magnitude, negative) = held.signed(bins.prec + 1)?;
         abs[i] = magnitude;
         sign[i] = negative;
     }
@@ -101,12 +121,10 @@ pub(crate) fn parse_lmcs_data(
     requires { d.old ≡ zero_lmcs }
     ensures { Reads (lmcs chroma) (filled result d.new reader.new.at) reader.old reader.new }
 {
-    read_head(reader, d)?;
+    let bins = read_head(reader, d)?;
     read_codewords(
         reader,
-        d.lmcs_min_bin_idx,
-        d.lmcs_delta_max_bin_idx,
-        d.lmcs_delta_cw_prec_minus1,
+        bins,
         &mut d.lmcs_delta_abs_cw,
         &mut d.lmcs_delta_sign_cw_flag,
     )?;

@@ -1,20 +1,19 @@
 // lmcs_data(), H.266 7.3.2.19, written: what is not sent must be 0.
-ghost use Rattle.std.specs.Prelude.{◌≡◌, true, ◌+◌, ◌≤◌, length, OnOk};
+ghost use Rattle.std.specs.Prelude.{◌≡◌, ◌+◌, ◌≤◌, length};
 ghost use Rattle.aps.specs.Codec.{u, when};
 ghost use Rattle.aps.specs.Elements.{signed, no_signed};
-ghost use Rattle.aps.specs.LmcsSyntax.{in_range, coded_from, lmcs_head, lmcs_codewords, from_lmcs, lmcs};
+ghost use Rattle.aps.specs.LmcsSyntax.{coded_from, lmcs_head, lmcs_codewords, from_lmcs, lmcs};
 ghost use Rattle.aps.specs.Writes.{Wrote};
 
-use crate::lmcs::{VvcLmcsData, in_range};
+use crate::lmcs::{Bins, VvcLmcsData};
 use crate::writer::{Writer, unsent};
 use bitstream::Refusal;
 
 // Bin i is between min and 15 - max.
-fn bin_coded(min: u32, max: u32, i: usize) -> bool
-    requires { max ≤ 15 }
-    ensures { result ≡ coded_from min max i }
+fn bin_coded(bins: Bins, i: usize) -> bool
+    ensures { result ≡ coded_from bins.min bins.max i }
 {
-    min as usize <= i && i <= 15 - max as usize
+    bins.min as usize <= i && i <= 15 - bins.max as usize
 }
 
 // A delta, its magnitude u(n) and its sign, where it is sent; else both are 0.
@@ -30,32 +29,25 @@ fn put_delta(writer: &mut Writer, sent: bool, abs: u32, sign: bool, n: u32) -> R
 }
 
 // The three values that say which bins are coded, and how wide.
-fn put_head(writer: &mut Writer, curve: &VvcLmcsData) -> Result<(), Refusal>
+fn put_head(writer: &mut Writer, bins: Bins) -> Result<(), Refusal>
     requires { writer.old.at ≤ 32000 }
-    ensures wrote { Wrote lmcs_head (from_lmcs curve.now).0 writer.old writer.new result }
+    ensures wrote { Wrote lmcs_head (bins.min, (bins.max, bins.prec)) writer.old writer.new result }
     ensures within { writer.new.at ≤ writer.old.at + 25 }
-    ensures taken { OnOk result (in_range (from_lmcs curve.now).0 ≡ true) }
 {
-    let min = curve.lmcs_min_bin_idx;
-    let max = curve.lmcs_delta_max_bin_idx;
-    let prec = curve.lmcs_delta_cw_prec_minus1;
-    if !in_range(min, max, prec) {
-        return Err(Refusal::InvalidData);
-    }
-    writer.ue_to(min, 15)?;
-    writer.ue_to(max, 15)?;
-    writer.ue_to(prec, 14)
+    writer.ue_to(bins.min, 15)?;
+    writer.ue_to(bins.max, 15)?;
+    writer.ue_to(bins.prec, 14)
 }
 
 // The codewords of bins min to 15 - max; those of the other bins are 0.
-fn put_codewords(writer: &mut Writer, curve: &VvcLmcsData) -> Result<(), Refusal>
-    requires { (writer.old.at ≤ 31000) × (in_range (from_lmcs curve.now).0 ≡ true) }
-    ensures wrote { Wrote (lmcs_codewords (from_lmcs curve.now).0) (from_lmcs curve.now).1.0 writer.old writer.new result }
+fn put_codewords(writer: &mut Writer, bins: Bins, curve: &VvcLmcsData) -> Result<(), Refusal>
+    requires { writer.old.at ≤ 31000 }
+    ensures wrote { Wrote (lmcs_codewords (bins.min, (bins.max, bins.prec))) (from_lmcs curve.now).1.0 writer.old writer.new result }
     ensures within { writer.new.at ≤ writer.old.at + 256 }
 {
-    let n = curve.lmcs_delta_cw_prec_minus1 + 1;
+    let n = bins.prec + 1;
     for i in 0..16 {
-        let coded = bin_coded(curve.lmcs_min_bin_idx, curve.lmcs_delta_max_bin_idx, i);
+        let coded = bin_coded(bins, i);
         put_delta(
             writer,
             coded,
@@ -77,8 +69,13 @@ pub(crate) fn write_lmcs_data(
     ensures wrote { Wrote (lmcs chroma) curve.now writer.old writer.new result }
     ensures within { writer.new.at ≤ writer.old.at + 285 }
 {
-    put_head(writer, curve)?;
-    put_codewords(writer, curve)?;
+    let bins = Bins::new(
+        curve.lmcs_min_bin_idx,
+        curve.lmcs_delta_max_bin_idx,
+        curve.lmcs_delta_cw_prec_minus1,
+    )?;
+    put_head(writer, bins)?;
+    put_codewords(writer, bins, curve)?;
     put_delta(
         writer,
         chroma,

@@ -1,23 +1,15 @@
 -- `put_head`: three values in range, one after another.
-use mathlib.Core.Path.{sym, ◌∙◌}
 use native.Mathlib.Omega.{arith}
 use lib.Count.{count_leading_zeros}
-use Rattle.std.proofs.lemmas.Result.{on_ok_weaker}
 use Rattle.bitstream.specs.Fields.{ue_zeros}
-use Rattle.aps.specs.LmcsSyntax.{from_lmcs}
 use Rattle.aps.proofs.LmcsSteps.{in-range}
-use Rattle.aps.proofs.WriterLaws.{wrote-exit, wrote-not, wrote-judged, wrote-▷, wrote-▷-first}
-use Rattle.aps.proofs.LmcsWrites.{head-not, ue-wrote}
+use Rattle.aps.proofs.WriterLaws.{wrote-exit, wrote-judged, wrote-▷, wrote-▷-first}
+use Rattle.aps.proofs.LmcsWrites.{ue-wrote}
 use Rattle.aps.proofs.lmcs_write.put_head.Goals as goal
 
-pub returns-then-not-in_range-clause-wrote : goal.returns-then-not-in_range-clause-wrote
-unfolding from_lmcs
-returns-then-not-in_range-clause-wrote c = wrote-not (head-not _ (sym c.in_range.ensures ∙ c.if-not-in_range.true))
-
 pub returns-in_err-ue_to-clause-wrote : goal.returns-in_err-ue_to-clause-wrote
-unfolding from_lmcs
 returns-in_err-ue_to-clause-wrote c =
-    let t = sym c.in_range.ensures ∙ c.if-not-in_range.false in
+    let t = c.args.bins.range in
     wrote-exit c.from_residual.ensures.1 (wrote-judged _ t (wrote-▷-first _ (ue-wrote (omega (arith, (in-range _ _ _ t).0)) c.in_err-ue_to.ensures.wrote)))
 
 pub returns-in_err-ue_to-clause-within : goal.returns-in_err-ue_to-clause-within
@@ -29,9 +21,8 @@ unfolding ue_zeros count_leading_zeros
 ue_to-requires-2 c = (omega arith, omega arith)
 
 pub returns-in_err-ue_to-2-clause-wrote : goal.returns-in_err-ue_to-2-clause-wrote
-unfolding from_lmcs
 returns-in_err-ue_to-2-clause-wrote c =
-    let t = sym c.in_range.ensures ∙ c.if-not-in_range.false in
+    let t = c.args.bins.range in
     let r = in-range _ _ _ t in
     wrote-exit c.from_residual-in_err-ue_to-2.ensures.1
     (wrote-judged _ t (wrote-▷ _ (ue-wrote (omega (arith, r.0)) c.in_ok-ue_to.ensures.wrote) (wrote-▷-first _ (ue-wrote r.1 c.in_err-ue_to-2.ensures.wrote))))
@@ -45,14 +36,13 @@ unfolding ue_zeros count_leading_zeros
 ue_to-requires-3 c = (omega arith, omega arith)
 
 pub returns : goal.returns
-unfolding from_lmcs ue_zeros count_leading_zeros
+unfolding ue_zeros count_leading_zeros
 returns c =
-    let t = sym c.in_range.ensures ∙ c.if-not-in_range.false in
+    let t = c.args.bins.range in
     let r = in-range _ _ _ t in
     record {
       wrote =
           wrote-judged _ t
           (wrote-▷ _ (ue-wrote (omega (arith, r.0)) c.in_ok-ue_to.ensures.wrote) (wrote-▷ _ (ue-wrote r.1 c.in_ok-ue_to-2.ensures.wrote) (ue-wrote r.2 c.ue_to-3.ensures.wrote)));
       within = omega arith;
-      taken = on_ok_weaker c.ue_to-3.result (λ l. t) c.ue_to-3.ensures.taken;
     }
