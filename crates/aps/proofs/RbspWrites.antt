@@ -3,7 +3,7 @@ use borrow.Author.Tests.{le-leb, lt-leb}
 use mathlib.Core.Path.{◌≡◌, refl, sym, ap, ◌∙◌}
 use mathlib.Core.Bool.{Bool, true, false, cond, and-false}
 use mathlib.Core.List.{List}
-use Prim.Native.Nat.{ℕ, ◌+◌, ◌-◌, ◌/◌, ◌%◌, ◌≤◌, ◌<◌}
+use Prim.Native.Nat.{ℕ, zero, suc, ◌+◌, ◌-◌, ◌/◌, ◌%◌, ◌≤◌, ◌<◌}
 use native.Mathlib.Nat.{zero-add}
 use native.Mathlib.Omega.{arith}
 use lib.Dec.{leb}
@@ -21,11 +21,11 @@ use Rattle.bitstream.proofs.WriteLaws.{puts-append, length-trailing}
 use Rattle.bitstream.proofs.KeepLaws.{Bytes, length-puts, bytes-puts, puts-hold}
 use Rattle.bitstream.proofs.PackLaws.{length-pack, zero-bytes}
 use Rattle.aps.specs.Kinds.{largest_id}
-use Rattle.aps.specs.Codec.{via, judged, provided}
+use Rattle.aps.specs.Codec.{via, judged, provided, never}
 use Rattle.aps.specs.AlfSyntax.{alf}
 use Rattle.aps.specs.LmcsSyntax.{lmcs}
 use Rattle.aps.specs.ScalingSyntax.{Entry, scaling_syntax}
-use Rattle.aps.specs.ApsSyntax.{of_alf, of_lmcs, of_scaling, alf_in, lmcs_in, entries_in, is_alf, is_lmcs, is_scaling, payload, ApsData, aps_syntax, to_aps, from_aps, aps}
+use Rattle.aps.specs.ApsSyntax.{Payload, of_alf, of_lmcs, of_scaling, alf_in, lmcs_in, entries_in, is_alf, is_lmcs, is_scaling, payload, ApsData, aps_syntax, to_aps, from_aps, aps}
 use Rattle.aps.specs.Rbsp.{rbsp_bits, rbsp_bytes}
 use Rattle.aps.specs.Writes.{writes, written, closed, Wrote}
 use Rattle.aps.specs.declared.writer.Writer.{Writer}
@@ -40,19 +40,14 @@ use Rattle.aps.proofs.WriterLaws.{wrote-judged, wrote-provided, wrote-via}
 
 -- ---- the payload
 
--- an id that the kind does not have is not taken
 module _ (id : ℕ) (chroma : Bool) where
-  pub alf-id-wide : (d : VvcAlfData) → 7 < id → (payload 0 id chroma).ok (of_alf d) ≡ false
-  unfolding payload judged
-  alf-id-wide d h = rw (lt-leb id (largest_id 0) h) (and-false ((via of_alf alf_in is_alf (alf chroma)).ok (of_alf d)))
-
-  pub lmcs-id-wide : (d : VvcLmcsData) → 3 < id → (payload 1 id chroma).ok (of_lmcs d) ≡ false
-  unfolding payload provided
-  lmcs-id-wide d h = rw (lt-leb id (largest_id 1) h)
-
-  pub scaling-id-wide : (l : List Entry) → 7 < id → (payload 2 id chroma).ok (of_scaling l) ≡ false
-  unfolding payload judged
-  scaling-id-wide l h = rw (lt-leb id (largest_id 2) h) (and-false ((via of_scaling entries_in is_scaling (scaling_syntax chroma)).ok (of_scaling l)))
+  -- an id that the kind does not have is not taken
+  pub id-wide : (kind : ℕ) (x : Payload) → largest_id kind < id → (payload kind id chroma).ok x ≡ false
+  unfolding payload judged provided never
+  id-wide zero x h = rw (lt-leb id (largest_id 0) h) (and-false ((via of_alf alf_in is_alf (alf chroma)).ok x))
+  id-wide (suc zero) x h = rw (lt-leb id (largest_id 1) h)
+  id-wide (suc (suc zero)) x h = rw (lt-leb id (largest_id 2) h) (and-false ((via of_scaling entries_in is_scaling (scaling_syntax chroma)).ok x))
+  id-wide (suc (suc (suc kind))) x h = refl
 
   -- the payload of a kind is what the kind's description writes
   module _ {before after : Writer} {r : Result (Unit {0}) Refusal} where

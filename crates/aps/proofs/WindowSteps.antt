@@ -1,5 +1,6 @@
 -- Fields out of a window: what the syntax reads there.
 use Prim.Native.Nat.{ℕ, zero, suc, ◌+◌, ◌-◌, ◌*◌, ◌/◌, ◌%◌, ◌^◌, ◌≤◌, ◌<◌}
+use mir.Val.{bool_byte}
 use Rattle.std.specs.Prelude.{Some}
 use mathlib.Core.Path.{◌≡◌, refl, sym, ◌∙◌}
 use mathlib.Core.Bool.{Bool, true, false, cond, not}
@@ -68,7 +69,7 @@ module _ {s : List ℕ} {p left w n : ℕ} (h : IsWindow s p left w) (a : 0 < n)
       rw (flag-read s (p + n), e, mul-one b, bit-flag b (omega arith), add_assoc p n 1)
 
   -- the magnitude is there
-  with-sign : (t : Bool) → p + n ≤ length s * 8 → ends_at s (p + (n + cond t 0 1)) (abs, sign (cond t 0 1))
+  with-sign : (t : Bool) → p + n ≤ length s * 8 → ends_at s (p + (n + bool_byte (not t))) (abs, sign (bool_byte (not t)))
       ≡ ◌then◌ {B = ℕ × Bool} (cond (not t) (flag.read s (p + n)) (value false (p + n))) (λ b r. value (abs, b) r)
   with-sign true i = rw (mul-zero (w / 2 ^ (63 - n) % 2), add-zero n, le-ltb (length s * 8) (p + n) i)
   with-sign false i = rw sign_read (go (ltb (length s * 8) (p + (n + 1))))
@@ -77,7 +78,7 @@ module _ {s : List ℕ} {p left w n : ℕ} (h : IsWindow s p left w) (a : 0 < n)
       go true = refl
       go false = refl
 
-  pub held-signed : {m : ℕ} → m ≡ cond (eqb abs 0) 0 1 → ends_at s (p + (n + m)) (abs, sign m) ≡ (signed (u n)).read s p
+  pub held-signed : {m : ℕ} → m ≡ bool_byte (not (eqb abs 0)) → ends_at s (p + (n + m)) (abs, sign m) ≡ (signed (u n)).read s p
   unfolding when
   held-signed {m} e = rw (signed-read (u n) s p, ← held-u h n a (omega arith)) (go (dec_lt (length s * 8) (p + n)))
     where

@@ -40,10 +40,7 @@ impl Coded for VvcAlfData {
         Ok(())
     }
 
-    fn write(&self, writer: &mut Writer, id: u8, chroma: bool) -> Result<(), Refusal> {
-        if Alf::MAX_ID < id {
-            return Err(Refusal::InvalidData);
-        }
+    fn write(&self, writer: &mut Writer, chroma: bool) -> Result<(), Refusal> {
         write_alf_data(writer, chroma, self)
     }
 

@@ -2,6 +2,7 @@
 ghost use Rattle.std.specs.Prelude.{◌≡◌};
 ghost use Rattle.bitstream.specs.Outcome.{map_outcome};
 ghost use Rattle.aps.specs.Inner.{Opens};
+ghost use Rattle.aps.specs.Kinds.{largest_id};
 ghost use Rattle.aps.specs.Rbsp.{parse_aps_rbsp};
 ghost use Rattle.aps.specs.ApsSyntax.{empty_set, number_of};
 ghost use Rattle.aps.specs.Reading.{outcome_reading, head_of, kind_named};
@@ -53,6 +54,19 @@ impl Scaling {
     pub const MAX_ID: u8 = 7;
 
     pub const MAX_BYTES: usize = 2931;
+}
+
+impl ApsKind {
+    // Its largest id.
+    pub fn max_id(self) -> u8
+        ensures { result ≡ largest_id (number_of self) }
+    {
+        match self {
+            ApsKind::Alf => Alf::MAX_ID,
+            ApsKind::Lmcs => Lmcs::MAX_ID,
+            ApsKind::Scaling => Scaling::MAX_ID,
+        }
+    }
 }
 
 // A kind's number.

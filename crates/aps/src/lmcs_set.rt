@@ -40,10 +40,7 @@ impl Coded for VvcLmcsData {
         Ok(())
     }
 
-    fn write(&self, writer: &mut Writer, id: u8, chroma: bool) -> Result<(), Refusal> {
-        if Lmcs::MAX_ID < id {
-            return Err(Refusal::InvalidData);
-        }
+    fn write(&self, writer: &mut Writer, chroma: bool) -> Result<(), Refusal> {
         write_lmcs_data(writer, chroma, self)
     }
 

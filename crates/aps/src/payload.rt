@@ -2,6 +2,7 @@
 ghost use Rattle.std.specs.Prelude.{◌≡◌, Bool, List, ℕ, ◌+◌, ◌≤◌};
 ghost use Rattle.aps.specs.ApsSyntax.{payload, number_of, from_aps};
 ghost use Rattle.aps.specs.ApsSyntax as Syntax;
+ghost use Rattle.aps.specs.Kinds.{largest_id};
 ghost use Rattle.bitstream.specs.Outcome.{left, map_outcome, outcome_written};
 ghost use Rattle.aps.specs.Writing.{write_aps};
 ghost use Rattle.aps.specs.Payloads.{alike};
@@ -78,9 +79,10 @@ pub(crate) trait Coded: Copy + Default {
         ensures set { filled result (set head.new d.new) reader.new.at ≡ read_rbsp reader.old.bytes.now }
         ensures kind { head.new.kind ≡ head.old.kind };
 
-    fn write(&self, writer: &mut Writer, id: u8, chroma: bool) -> Result<(), Refusal>
+    // The payload of a set with an id that its kind has.
+    fn write(&self, writer: &mut Writer, chroma: bool) -> Result<(), Refusal>
         requires { writer.old.at ≤ 100 }
-        ensures wrote { Wrote (payload (number_of KIND) id chroma) (sent chroma self.now) writer.old writer.new result }
+        ensures wrote { (id : ℕ) → id ≤ largest_id (number_of KIND) → Wrote (payload (number_of KIND) id chroma) (sent chroma self.now) writer.old writer.new result }
         ensures within { writer.new.at ≤ writer.old.at + 31248 };
 
     ghost default_is: { (p : Self) → Self.is_default p → p ≡ none };

@@ -1,5 +1,5 @@
 // The fields of an input of at most 65,536 bytes, one after another.
-ghost use Rattle.std.specs.Prelude.{◌≡◌, false, cond, ◌+◌, ◌*◌, ◌≤◌, ◌<◌, eqb, ltb, nat_abs, length};
+ghost use Rattle.std.specs.Prelude.{◌≡◌, false, ◌+◌, ◌*◌, ◌≤◌, ◌<◌, ltb, nat_abs, length};
 ghost use Rattle.bitstream.specs.Fields.{se_value};
 ghost use Rattle.bitstream.specs.Windows.{IsWindow};
 
@@ -122,7 +122,7 @@ impl<'a> Reader<'a> {
         let width = n as u64;
         self.fill(width + 1);
         let abs = (self.bits >> (64 - width)) as u32;
-        let sent = sign_bits(abs);
+        let sent = u64::from(abs != 0);
         if self.lacks(width + sent) {
             return Err(Refusal::UnexpectedEnd);
         }
@@ -229,13 +229,6 @@ impl<'a> Reader<'a> {
         let sign = self.flag()?;
         Ok(((abs, sign), self))
     }
-}
-
-// The bits of the sign of a magnitude.
-fn sign_bits(abs: u32) -> u64
-    ensures { (result ≡ cond (eqb abs 0) 0 1) × (result ≤ 1) }
-{
-    if abs == 0 { 0 } else { 1 }
 }
 
 // The se that a short ue stands for.

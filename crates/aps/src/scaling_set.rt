@@ -42,10 +42,7 @@ impl Coded for VvcScalingListData {
         Ok(())
     }
 
-    fn write(&self, writer: &mut Writer, id: u8, chroma: bool) -> Result<(), Refusal> {
-        if Scaling::MAX_ID < id {
-            return Err(Refusal::InvalidData);
-        }
+    fn write(&self, writer: &mut Writer, chroma: bool) -> Result<(), Refusal> {
         write_scaling_list_data(writer, chroma, self)
     }
 

@@ -28,7 +28,10 @@ fn put_set<P: Coded>(writer: &mut Writer, id: u8, chroma: bool, d: &P) -> Result
     writer.u(u32::from(u8::from(P::KIND)), 3)?;
     writer.u(u32::from(id), 5)?;
     writer.flag(chroma)?;
-    d.write(writer, id, chroma)?;
+    if P::KIND.max_id() < id {
+        return Err(Refusal::InvalidData);
+    }
+    d.write(writer, chroma)?;
     writer.flag(false)
 }
 

@@ -31,16 +31,6 @@ pub fn new_table() -> Table
     [0u8; TABLE_BYTES]
 }
 
-fn max_id(kind: ApsKind) -> u8
-    ensures { result ≡ largest_id (number_of kind) }
-{
-    match kind {
-        ApsKind::Alf => Alf::MAX_ID,
-        ApsKind::Lmcs => Lmcs::MAX_ID,
-        ApsKind::Scaling => Scaling::MAX_ID,
-    }
-}
-
 // A place of the table: an id of its kind.
 #[derive(Clone, Copy)]
 pub(crate) struct Place {
@@ -56,7 +46,7 @@ impl Place {
         ensures some { IfSome result (λ place. (number_of place.kind ≡ kind) × (place.id ≡ id)) }
     {
         if let Ok(kind) = ApsKind::try_from(kind) {
-            if id <= max_id(kind) {
+            if id <= kind.max_id() {
                 return Some(Place { kind, id });
             }
         }

@@ -1,10 +1,6 @@
--- `write`: an id above 7 is not taken.
-use Rattle.aps.proofs.WriterLaws.{wrote-not}
-use Rattle.aps.proofs.RbspWrites.{alf-id-wide, alf-payload}
+-- `write`: the payload, whose id is judged before.
+use Rattle.aps.proofs.RbspWrites.{alf-payload}
 use Rattle.aps.proofs.alf_set.VvcAlfDataCoded.write.Goals as goal
 
-pub returns-then-id-gt-MAX_ID-clause-wrote : goal.returns-then-id-gt-MAX_ID-clause-wrote
-returns-then-id-gt-MAX_ID-clause-wrote c = wrote-not (alf-id-wide c.args.id c.args.chroma c.args.self.now c.if-id-gt-MAX_ID.true)
-
 pub returns-clause-wrote : goal.returns-clause-wrote
-returns-clause-wrote c = alf-payload c.args.id c.args.chroma c.if-id-gt-MAX_ID.false c.write_alf_data.ensures.wrote
+returns-clause-wrote c id h = alf-payload id c.args.chroma h c.write_alf_data.ensures.wrote

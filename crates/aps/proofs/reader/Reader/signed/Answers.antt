@@ -15,11 +15,11 @@ overflow_cast-abs c =
 pub returns-then-lacks : goal.returns-then-lacks
 returns-then-lacks c =
     let (at, l) = c.fill.ensures in
-    let e = held-signed c.fill.new.self.known (omega arith) l c.sign_bits-sent.ensures.0 in
+    let e = held-signed c.fill.new.self.known (omega arith) l c.from-sent.ensures in
     reads-from at (reads-past _ _ _ e c.lacks.ensures refl c.if-lacks.true)
 
 pub returns : goal.returns
 returns c =
     let (at, l) = c.fill.ensures in
-    let e = held-signed c.fill.new.self.known (omega arith) l c.sign_bits-sent.ensures.0 in
+    let e = held-signed c.fill.new.self.known (omega arith) l c.from-sent.ensures in
     reads-from at (reads-inside _ _ _ e c.lacks.ensures c.pass.ensures.0 c.if-lacks.false c.pass.ensures.1)
