@@ -10,7 +10,8 @@ use lib.IntN.{ℤ}
 use lib.ListN.{length, take, get_or, set, length-append, length-map}
 use lib.Seq.{sets, take-suc, length-take-le}
 use mir.Val.{bool_byte}
-use Rattle.aps_c.specs.Numbers.{Put, flag_number}
+use Rattle.aps_c.specs.Numbers.{Puts, flag_number}
+use Rattle.aps_c.specs.declared.numbers.Target.{Target}
 
 module _ {A : Type 0} where
   sets-append : (l : List A) (i : ℕ) (xs ys : List A) → sets (sets l i xs) (i + length xs) ys ≡ sets l i (xs ++ ys)
@@ -20,11 +21,10 @@ module _ {A : Type 0} where
       rw e (sets-append (set l i x) (suc i) xs ys)
 
 -- two runs are one
-pub put_then : {before between after xs ys : List ℤ} {from mid next : ℕ} → Put before from xs between mid → Put between mid ys after next
-    → Put before from (xs ++ ys) after next
-put_then {before} {between} {after} {xs} {ys} {from} {mid} {next} p q =
-    let h : sets between mid ys ≡ sets before from (xs ++ ys) = rw (p.holds, p.ends) (sets-append before from xs ys) in
-    record { holds = q.holds ∙ h; ends = omega (arith, p.ends, q.ends, length-append xs ys) }
+pub put_then : {before between after : Target} {xs ys : List ℤ} → Puts xs before between → Puts ys between after → Puts (xs ++ ys) before after
+put_then {before} {between} {after} {xs} {ys} p q =
+    let h : sets between.numbers.now between.at ys ≡ sets before.numbers.now before.at (xs ++ ys) = rw (p.holds, p.ends) (sets-append before.numbers.now before.at xs ys) in
+    record { same = q.same ∙ p.same; holds = q.holds ∙ h; ends = omega (arith, p.ends, q.ends, length-append xs ys) }
 
 -- A loop that writes what f makes of each element: where it stands, and one turn.
 module _ {X Y : Type 0} (f : X → Y) (src : List X) (before : List Y) (from : ℕ) where

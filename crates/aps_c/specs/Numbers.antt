@@ -10,6 +10,7 @@ use Rattle.aps.specs.declared.lmcs.VvcLmcsData.{VvcLmcsData}
 use Rattle.aps.specs.declared.scaling_list.VvcScalingListData.{VvcScalingListData}
 use Rattle.aps.specs.declared.aps.VvcAps.{VvcAps}
 use Rattle.aps.specs.declared.nal_header.VvcNalHeader.{VvcNalHeader}
+use Rattle.aps_c.specs.declared.numbers.Target.{Target}
 
 abbrev pub flag_number : Bool → ℕ
 flag_number b = cond b 1 0
@@ -20,10 +21,11 @@ naturals = map pos
 unfoldable pub flags : List Bool → List ℤ
 flags = map λ b. pos (flag_number b)
 
--- the numbers xs written into an array at `from`, and the index after them
-pub record Put (before : List ℤ) (from : ℕ) (xs after : List ℤ) (next : ℕ) : Type 0 where
-  pub holds : after ≡ sets before from xs
-  pub ends : next ≡ from + length xs
+-- the numbers xs written to the same array where the target stood, which is then after them
+pub record Puts (xs : List ℤ) (before after : Target) : Type 0 where
+  pub same : after.numbers.ghost_name ≡ before.numbers.ghost_name
+  pub holds : after.numbers.now ≡ sets before.numbers.now before.at xs
+  pub ends : after.at ≡ before.at + length xs
 
 unfoldable pub luma_numbers : VvcAlfLuma → List ℤ
 luma_numbers d =

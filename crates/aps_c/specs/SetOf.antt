@@ -1,5 +1,5 @@
 -- The set that a list of numbers stands for, each number in the place that `numbers` gives it, and the numbers that the fields can hold.
-use Rattle.std.specs.Prelude.{ℕ, ◌+◌, Bool, cond, ◌&&◌, List, map, eqb, ℤ, pos, negsuc, nat_abs, length, get_or, take, drop}
+use Rattle.std.specs.Prelude.{ℕ, ◌+◌, ◌≡◌, Bool, cond, ◌&&◌, List, map, eqb, ℤ, pos, negsuc, nat_abs, length, get_or, take, drop}
 use Rattle.std.specs.Int.Signed.{le_z}
 use Rattle.std.specs.List.{list_all}
 use Rattle.aps.specs.ScalingSyntax.{eq_z}
@@ -11,6 +11,7 @@ use Rattle.aps.specs.declared.lmcs.VvcLmcsData.{VvcLmcsData}
 use Rattle.aps.specs.declared.scaling_list.VvcScalingListData.{VvcScalingListData}
 use Rattle.aps.specs.declared.aps.ApsKind.{ApsKind}
 use Rattle.aps.specs.declared.aps.VvcAps.{VvcAps}
+use Rattle.aps_c.specs.declared.set_of.Source.{Source}
 
 unfoldable pub between : ℤ → ℤ → ℤ → Bool
 between low high z = le_z low z && le_z z high
@@ -180,3 +181,7 @@ fits l = fits_head l && (fits_alf l && (fits_lmcs l && fits_scaling l))
 -- as many numbers as a set has, and such that its fields can hold them
 unfoldable pub is_set : List ℤ → Bool
 is_set l = eqb (length l) 3122 && fits l
+
+-- n numbers on in the same list
+abbrev pub Passed : ℕ → Source → Source → Type 0
+Passed n before after = (after.numbers.now ≡ before.numbers.now) × (after.at ≡ before.at + n)

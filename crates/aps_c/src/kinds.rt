@@ -6,6 +6,7 @@ ghost use Rattle.aps_c.specs.Codes.{code, place_left, rewrite_of};
 
 use crate::{ended, sized};
 use aps::payload::Payload;
+use bitstream::Refusal;
 
 // A set read by one kind: whether there is a set, and the bit where reading it ended.
 pub fn payload_end<P: Payload>(bytes: &[u8], end: &mut [u64; 1]) -> u32
@@ -26,7 +27,7 @@ pub fn payload_rewrite<P: Payload>(bytes: &[u8], out: &mut [u8], len: &mut [u64;
             let set = reading.value;
             let head = set.head;
             if head.kind != P::KIND {
-                return 2;
+                return Refusal::InvalidData.into();
             }
             let id = head.aps_adaptation_parameter_set_id;
             let chroma = head.aps_chroma_present_flag;

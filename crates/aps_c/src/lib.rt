@@ -142,7 +142,7 @@ pub fn aps_write(set: &[i64], out: &mut [u8], len: &mut [u64; 1]) -> u32
 {
     match &set_in(set) {
         Some(set) => sized(write_aps(set, out), len),
-        None => 2,
+        None => Refusal::InvalidData.into(),
     }
 }
 
@@ -154,7 +154,7 @@ pub fn aps_write_nal(set: &[i64], unit_type: u8, out: &mut [u8], len: &mut [u64;
 {
     match &set_in(set) {
         Some(set) => sized(write_aps_nal(set, unit_type, out), len),
-        None => 2,
+        None => Refusal::InvalidData.into(),
     }
 }
 

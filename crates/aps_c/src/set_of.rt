@@ -2,7 +2,7 @@
 ghost use Rattle.std.specs.Prelude.{◌≡◌, ◌+◌, ◌≤◌, ◌<◌, ℤ, pos, negsuc, true, false, map, get_or, IfSome, IfNone};
 ghost use Rattle.aps_c.specs.SetOf.{natural, integer, truth, part};
 ghost use Rattle.aps_c.specs.SetOf.{kind_of, luma_of, chroma_of, cc_of, alf_of, lmcs_of, scaling_of, set_of};
-ghost use Rattle.aps_c.specs.SetOf.{all_in, fits_luma, fits_chroma, fits_cc, fits_alf, fits_lmcs, fits_scaling, fits_head, fits, is_set};
+ghost use Rattle.aps_c.specs.SetOf.{all_in, fits_luma, fits_chroma, fits_cc, fits_alf, fits_lmcs, fits_scaling, fits_head, fits, is_set, Passed};
 
 use crate::numbers::NUMBERS;
 use aps::alf::{VvcAlfCcFilters, VvcAlfChroma, VvcAlfData, VvcAlfLuma};
@@ -114,111 +114,125 @@ fn field_at<T: Field>(src: &[i64; NUMBERS], at: usize) -> T
     T::of(src[at])
 }
 
-// The field at index `at`, which is then the next.
-fn take<T: Field>(src: &[i64; NUMBERS], at: &mut usize) -> T
-    requires { at.old < 3122 }
-    ensures { (result ≡ T.of (get_or src.now at.old (pos 0))) × (at.new ≡ at.old + 1) }
+fn fields_at<T: Field, const N: usize>(src: &[i64; NUMBERS], at: usize) -> [T; N]
+    requires { at + N ≤ 3122 }
+    ensures { result ≡ map T.of (part src.now at N) }
 {
-    let from = *at;
-    *at = from + 1;
-    field_at(src, from)
+    array::from_fn(|i| field_at(src, at + i))
 }
 
-// N fields from index `at` on.
-fn take_array<T: Field, const N: usize>(src: &[i64; NUMBERS], at: &mut usize) -> [T; N]
-    requires { at.old + N ≤ 3122 }
-    ensures { (result ≡ map T.of (part src.now at.old N)) × (at.new ≡ at.old + N) }
-{
-    let from = *at;
-    *at = from + N;
-    array::from_fn(|i| field_at(src, from + i))
+// The numbers that a set is made of, and the index of the next.
+#[derive(Drop)]
+struct Source<'a> {
+    numbers: &'a [i64; NUMBERS],
+    at: usize,
 }
 
-// The records, each from index `at` on. As impls of one trait each would give its count, list and test as members besides, and be longer.
-#[tactic(auto, unfolding(crate::specs::SetOf::luma_of))]
-fn luma_of(src: &[i64; NUMBERS], at: &mut usize) -> VvcAlfLuma
-    requires { at.old + 927 ≤ 3122 }
-    ensures { (result ≡ luma_of src.now at.old) × (at.new ≡ at.old + 927) }
-{
-    VvcAlfLuma {
-        alf_luma_clip_flag: take(src, at),
-        alf_luma_num_filters_signalled_minus1: take(src, at),
-        alf_luma_coeff_delta_idx: take_array(src, at),
-        coeff_abs: take_array(src, at),
-        coeff_sign: take_array(src, at),
-        clip_idx: take_array(src, at),
+impl Source<'_> {
+    fn take<T: Field>(&mut self) -> T
+        requires { self.old.at < 3122 }
+        ensures { (result ≡ T.of (get_or self.old.numbers.now self.old.at (pos 0))) × Passed 1 self.old self.new }
+    {
+        let field = field_at(self.numbers, self.at);
+        self.at += 1;
+        field
     }
-}
 
-#[tactic(auto, unfolding(crate::specs::SetOf::chroma_of))]
-fn chroma_of(src: &[i64; NUMBERS], at: &mut usize) -> VvcAlfChroma
-    requires { at.old + 146 ≤ 3122 }
-    ensures { (result ≡ chroma_of src.now at.old) × (at.new ≡ at.old + 146) }
-{
-    VvcAlfChroma {
-        alf_chroma_clip_flag: take(src, at),
-        alf_chroma_num_alt_filters_minus1: take(src, at),
-        coeff_abs: take_array(src, at),
-        coeff_sign: take_array(src, at),
-        clip_idx: take_array(src, at),
+    fn take_array<T: Field, const N: usize>(&mut self) -> [T; N]
+        requires { self.old.at + N ≤ 3122 }
+        ensures { (result ≡ map T.of (part self.old.numbers.now self.old.at N)) × Passed N self.old self.new }
+    {
+        let fields = fields_at(self.numbers, self.at);
+        self.at += N;
+        fields
     }
-}
 
-#[tactic(auto, unfolding(crate::specs::SetOf::cc_of))]
-fn cc_of(src: &[i64; NUMBERS], at: &mut usize) -> VvcAlfCcFilters
-    requires { at.old + 57 ≤ 3122 }
-    ensures { (result ≡ cc_of src.now at.old) × (at.new ≡ at.old + 57) }
-{
-    VvcAlfCcFilters {
-        filters_signalled_minus1: take(src, at),
-        mapped_coeff_abs: take_array(src, at),
-        coeff_sign: take_array(src, at),
+    // The records. As impls of one trait each would give its count, list and test as members besides, and be longer.
+    #[tactic(auto, unfolding(crate::specs::SetOf::luma_of))]
+    fn luma(&mut self) -> VvcAlfLuma
+        requires { self.old.at + 927 ≤ 3122 }
+        ensures { (result ≡ luma_of self.old.numbers.now self.old.at) × Passed 927 self.old self.new }
+    {
+        VvcAlfLuma {
+            alf_luma_clip_flag: self.take(),
+            alf_luma_num_filters_signalled_minus1: self.take(),
+            alf_luma_coeff_delta_idx: self.take_array(),
+            coeff_abs: self.take_array(),
+            coeff_sign: self.take_array(),
+            clip_idx: self.take_array(),
+        }
     }
-}
 
-#[tactic(auto, unfolding(crate::specs::SetOf::alf_of))]
-fn alf_of(src: &[i64; NUMBERS], at: &mut usize) -> VvcAlfData
-    requires { at.old ≡ 4 }
-    ensures { (result ≡ alf_of src.now) × (at.new ≡ 1195) }
-{
-    VvcAlfData {
-        alf_luma_filter_signal_flag: take(src, at),
-        alf_chroma_filter_signal_flag: take(src, at),
-        alf_cc_cb_filter_signal_flag: take(src, at),
-        alf_cc_cr_filter_signal_flag: take(src, at),
-        luma: luma_of(src, at),
-        chroma: chroma_of(src, at),
-        cc_cb: cc_of(src, at),
-        cc_cr: cc_of(src, at),
+    #[tactic(auto, unfolding(crate::specs::SetOf::chroma_of))]
+    fn chroma(&mut self) -> VvcAlfChroma
+        requires { self.old.at + 146 ≤ 3122 }
+        ensures { (result ≡ chroma_of self.old.numbers.now self.old.at) × Passed 146 self.old self.new }
+    {
+        VvcAlfChroma {
+            alf_chroma_clip_flag: self.take(),
+            alf_chroma_num_alt_filters_minus1: self.take(),
+            coeff_abs: self.take_array(),
+            coeff_sign: self.take_array(),
+            clip_idx: self.take_array(),
+        }
     }
-}
 
-#[tactic(auto, unfolding(crate::specs::SetOf::lmcs_of))]
-fn lmcs_of(src: &[i64; NUMBERS], at: &mut usize) -> VvcLmcsData
-    requires { at.old ≡ 1195 }
-    ensures { (result ≡ lmcs_of src.now) × (at.new ≡ 1232) }
-{
-    VvcLmcsData {
-        lmcs_min_bin_idx: take(src, at),
-        lmcs_delta_max_bin_idx: take(src, at),
-        lmcs_delta_cw_prec_minus1: take(src, at),
-        lmcs_delta_abs_cw: take_array(src, at),
-        lmcs_delta_sign_cw_flag: take_array(src, at),
-        lmcs_delta_abs_crs: take(src, at),
-        lmcs_delta_sign_crs_flag: take(src, at),
+    #[tactic(auto, unfolding(crate::specs::SetOf::cc_of))]
+    fn cc(&mut self) -> VvcAlfCcFilters
+        requires { self.old.at + 57 ≤ 3122 }
+        ensures { (result ≡ cc_of self.old.numbers.now self.old.at) × Passed 57 self.old self.new }
+    {
+        VvcAlfCcFilters {
+            filters_signalled_minus1: self.take(),
+            mapped_coeff_abs: self.take_array(),
+            coeff_sign: self.take_array(),
+        }
     }
-}
 
-fn scaling_of(src: &[i64; NUMBERS], at: &mut usize) -> VvcScalingListData
-    requires { at.old ≡ 1232 }
-    ensures { result ≡ scaling_of src.now }
-{
-    VvcScalingListData {
-        copy_mode_flag: take_array(src, at),
-        pred_mode_flag: take_array(src, at),
-        pred_id_delta: take_array(src, at),
-        dc_coef: take_array(src, at),
-        scaling_list: take_array(src, at),
+    #[tactic(auto, unfolding(crate::specs::SetOf::alf_of))]
+    fn alf(&mut self) -> VvcAlfData
+        requires { self.old.at ≡ 4 }
+        ensures { (result ≡ alf_of self.old.numbers.now) × Passed 1191 self.old self.new }
+    {
+        VvcAlfData {
+            alf_luma_filter_signal_flag: self.take(),
+            alf_chroma_filter_signal_flag: self.take(),
+            alf_cc_cb_filter_signal_flag: self.take(),
+            alf_cc_cr_filter_signal_flag: self.take(),
+            luma: self.luma(),
+            chroma: self.chroma(),
+            cc_cb: self.cc(),
+            cc_cr: self.cc(),
+        }
+    }
+
+    #[tactic(auto, unfolding(crate::specs::SetOf::lmcs_of))]
+    fn lmcs(&mut self) -> VvcLmcsData
+        requires { self.old.at ≡ 1195 }
+        ensures { (result ≡ lmcs_of self.old.numbers.now) × Passed 37 self.old self.new }
+    {
+        VvcLmcsData {
+            lmcs_min_bin_idx: self.take(),
+            lmcs_delta_max_bin_idx: self.take(),
+            lmcs_delta_cw_prec_minus1: self.take(),
+            lmcs_delta_abs_cw: self.take_array(),
+            lmcs_delta_sign_cw_flag: self.take_array(),
+            lmcs_delta_abs_crs: self.take(),
+            lmcs_delta_sign_crs_flag: self.take(),
+        }
+    }
+
+    fn scaling(&mut self) -> VvcScalingListData
+        requires { self.old.at ≡ 1232 }
+        ensures { result ≡ scaling_of self.old.numbers.now }
+    {
+        VvcScalingListData {
+            copy_mode_flag: self.take_array(),
+            pred_mode_flag: self.take_array(),
+            pred_id_delta: self.take_array(),
+            dc_coef: self.take_array(),
+            scaling_list: self.take_array(),
+        }
     }
 }
 
@@ -317,14 +331,14 @@ pub(crate) fn set_in(src: &[i64]) -> Option<VvcAps>
     if !fits(numbers) {
         return None;
     }
-    let at = &mut 0;
+    let mut source = Source { numbers, at: 0 };
     Some(VvcAps {
-        kind: take(numbers, at),
-        aps_adaptation_parameter_set_id: take(numbers, at),
-        aps_chroma_present_flag: take(numbers, at),
-        aps_extension_flag: take(numbers, at),
-        alf: alf_of(numbers, at),
-        lmcs: lmcs_of(numbers, at),
-        scaling: scaling_of(numbers, at),
+        kind: source.take(),
+        aps_adaptation_parameter_set_id: source.take(),
+        aps_chroma_present_flag: source.take(),
+        aps_extension_flag: source.take(),
+        alf: source.alf(),
+        lmcs: source.lmcs(),
+        scaling: source.scaling(),
     })
 }

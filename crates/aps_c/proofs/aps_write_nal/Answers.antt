@@ -1,5 +1,4 @@
 -- `aps_write_nal`: the set that the numbers stand for is written as a unit, if there is one.
-use mathlib.Core.Path.{refl}
 use Rattle.aps_c.proofs.WriteLaws.{no-unit, of-unit, wrote, refuses}
 use Rattle.aps_c.proofs.aps_write_nal.Goals as goal
 
@@ -13,4 +12,4 @@ returns-in-Some c =
 pub returns-in-None : goal.returns-in-None
 returns-in-None c =
     let a = c.args in
-    let r = refuses a.out.now a.len.now (no-unit a.set.now a.unit_type a.out.now (rw c.in-None.is at c.set_in.ensures.none)) refl in record { code = r.0; out = r.1.0; len = r.1.1 }
+    let r = refuses a.out.now a.len.now (no-unit a.set.now a.unit_type a.out.now (rw c.in-None.is at c.set_in.ensures.none)) c.into.ensures in record { code = r.0; out = r.1.0; len = r.1.1 }

@@ -1,5 +1,5 @@
 -- `payload_rewrite`: the set that was read is written by its own kind, or the refusal handed on.
-use mathlib.Core.Path.{◌∙◌, ap, sym, refl}
+use mathlib.Core.Path.{◌∙◌, ap, sym}
 use denote.Enum.Bare.{differs_true, differs_false}
 use Rattle.bitstream.specs.Outcome.{left}
 use Rattle.aps.specs.contracts.aps.ApsKind.{the_type}
@@ -14,7 +14,7 @@ returns-then-ne g c =
     let m = made _ _ c.in-Ok.ensures in
     let k = ap (λ r. r.head.kind) m.is in
     let n = differs_true the_type _ _ (sym c.ne.ensures ∙ c.if-ne.true) in
-    let r = refuses b.out.now b.len.now (other-kind g.P.Payload.KIND b.bytes.now b.out.now m.read (λ e. n (k ∙ e ∙ sym c.KIND.ensures))) refl in
+    let r = refuses b.out.now b.len.now (other-kind g.P.Payload.KIND b.bytes.now b.out.now m.read (λ e. n (k ∙ e ∙ sym c.KIND.ensures))) c.into.ensures in
     record { code = r.0; out = r.1.0; len = r.1.1 }
 
 pub returns-else-ne : goal.returns-else-ne
@@ -31,5 +31,5 @@ returns-else-ne g c =
 pub returns-in-Err : goal.returns-in-Err
 returns-in-Err g c =
     let b = c.args in
-    let r = refuses b.out.now b.len.now (no_kind g.P.Payload.KIND b.bytes.now b.out.now (unmade _ _ c.in-Err.ensures)) c.into.ensures in
+    let r = refuses b.out.now b.len.now (no_kind g.P.Payload.KIND b.bytes.now b.out.now (unmade _ _ c.in-Err.ensures)) c.into-in-Err.ensures in
     record { code = r.0; out = r.1.0; len = r.1.1 }

@@ -2,7 +2,7 @@
 use native.Mathlib.Omega.{arith}
 use Rattle.aps_c.specs.Numbers.{naturals, flags, cc_numbers}
 use Rattle.aps_c.proofs.PutLaws.{put_then}
-use Rattle.aps_c.proofs.numbers.put_cc.Goals as goal
+use Rattle.aps_c.proofs.numbers.Target.put_cc.Goals as goal
 
 pub returns : goal.returns
 unfolding cc_numbers naturals flags

@@ -2,7 +2,7 @@
 use Rattle.aps_c.specs.Numbers.{naturals, flags, scaling_numbers}
 use Rattle.aps_c.proofs.PutLaws.{put_then}
 use Rattle.std.proofs.lemmas.List.{map-id}
-use Rattle.aps_c.proofs.numbers.put_scaling.Goals as goal
+use Rattle.aps_c.proofs.numbers.Target.put_scaling.Goals as goal
 
 pub returns : goal.returns
 unfolding scaling_numbers naturals flags

@@ -2,7 +2,7 @@
 use native.Mathlib.Omega.{arith}
 use Rattle.aps_c.specs.Numbers.{flags, alf_numbers}
 use Rattle.aps_c.proofs.PutLaws.{put_then}
-use Rattle.aps_c.proofs.numbers.put_alf.Goals as goal
+use Rattle.aps_c.proofs.numbers.Target.put_alf.Goals as goal
 
 pub returns : goal.returns
 unfolding alf_numbers flags

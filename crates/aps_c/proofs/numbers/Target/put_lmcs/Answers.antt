@@ -2,7 +2,7 @@
 use native.Mathlib.Omega.{arith}
 use Rattle.aps_c.specs.Numbers.{naturals, flags, lmcs_numbers}
 use Rattle.aps_c.proofs.PutLaws.{put_then, flag-byte}
-use Rattle.aps_c.proofs.numbers.put_lmcs.Goals as goal
+use Rattle.aps_c.proofs.numbers.Target.put_lmcs.Goals as goal
 
 pub returns : goal.returns
 unfolding lmcs_numbers naturals flags

@@ -2,7 +2,7 @@
 use native.Mathlib.Omega.{arith}
 use Rattle.aps_c.specs.Numbers.{naturals, flags, luma_numbers}
 use Rattle.aps_c.proofs.PutLaws.{put_then, flag-byte}
-use Rattle.aps_c.proofs.numbers.put_luma.Goals as goal
+use Rattle.aps_c.proofs.numbers.Target.put_luma.Goals as goal
 
 pub returns : goal.returns
 unfolding luma_numbers naturals flags
