@@ -8,6 +8,7 @@ use native.Mathlib.Omega.{arith}
 use lib.Dec.{leb, eqb}
 use lib.ListN.{length, drop, get_or, set, drop_of_length-le}
 use lib.Seq.{drop-cons}
+use mir.Val.{bool_byte}
 use Rattle.bitstream.specs.Escapes.{zero_run, kept, cons_if, escape_from, escape, unescape_from, unescape}
 use Rattle.bitstream.proofs.EscapeLaws.{zero_run-most}
 use Rattle.bitstream.proofs.Filling.{Filling, step, room-if, step-if, count-step}
@@ -31,10 +32,10 @@ pub escape_end : (s : List ℕ) (i z : ℕ) → length s ≤ i → escape_from z
 unfolding escape_from
 escape_end s i z h = rw (drop_of_length-le s {i = i} h)
 
--- a count grows by one at most
-pub cond-most : (t : Bool) (n : ℕ) → cond t (n + 1) n ≤ n + 1
-cond-most true n = omega arith
-cond-most false n = omega arith
+-- a flag counts one at most
+pub flag-most : (t : Bool) → bool_byte t ≤ 1
+flag-most true = omega arith
+flag-most false = omega arith
 
 -- an 03 makes no run longer
 kept-most : (t : Bool) (z : ℕ) → kept t z ≤ z
@@ -55,9 +56,9 @@ module _ (s : List ℕ) (i z : ℕ) (h : i < length s) where
   need = leb 2 z && leb (get_or s i 0) 3
 
   -- a turn of the count and of the write, escapes removed
-  pub unescape-counted : (t : Bool) (z' n n' : ℕ) → t ≡ stay → z' ≡ zero_run z (get_or s i 0) → n' ≡ cond t (n + 1) n
-      → n + length (unescape_from z (drop i s)) ≡ length (unescape s) → n' + length (unescape_from z' (drop (i + 1) s)) ≡ length (unescape s)
-  unescape-counted t z' n n' et ez en e = rw (en, et, ez, count-step stay (get_or s i 0) n, ← (unescape-at s i z h)) e
+  pub unescape-counted : (t : Bool) (z' n k : ℕ) → t ≡ stay → z' ≡ zero_run z (get_or s i 0) → k ≡ bool_byte t
+      → n + length (unescape_from z (drop i s)) ≡ length (unescape s) → n + k + length (unescape_from z' (drop (i + 1) s)) ≡ length (unescape s)
+  unescape-counted t z' n k et ez ek e = rw (ek, et, ez, count-step stay (get_or s i 0) n, ← (unescape-at s i z h)) e
 
   module _ {out₀ out : List ℕ} {o : ℕ} (l : length (unescape s) ≤ length out₀) (f : Filling out₀ out o (unescape_from z (drop i s)) (unescape s)) where
     pub unescape-room : (t : Bool) → t ≡ stay → t ≡ true → o < length out
@@ -73,10 +74,10 @@ module _ (s : List ℕ) (i z : ℕ) (h : i < length s) where
   due = escape_from (zero_run (kept need z) (get_or s i 0)) (drop (i + 1) s)
 
   -- a turn of the count and of the write, escapes put in
-  pub escape-counted : (t : Bool) (z' n n' : ℕ) → t ≡ need → z' ≡ zero_run (kept t z) (get_or s i 0) → n' ≡ cond t (n + 1) n
-      → n + length (escape_from z (drop i s)) ≡ length (escape s) → n' + 1 + length (escape_from z' (drop (i + 1) s)) ≡ length (escape s)
-  escape-counted t z' n n' et ez en e =
-      rw (en, ez, et) (omega (arith, count-step need 3 n (get_or s i 0 ∷ due), ap length (escape-at s i z h), e))
+  pub escape-counted : (t : Bool) (z' n k : ℕ) → t ≡ need → z' ≡ zero_run (kept t z) (get_or s i 0) → k ≡ bool_byte t
+      → n + length (escape_from z (drop i s)) ≡ length (escape s) → n + (k + 1) + length (escape_from z' (drop (i + 1) s)) ≡ length (escape s)
+  escape-counted t z' n k et ez ek e =
+      rw (ek, ez, et) (omega (arith, count-step need 3 n (get_or s i 0 ∷ due), ap length (escape-at s i z h), e))
 
   module _ {out₀ out : List ℕ} {o : ℕ} (l : length (escape s) ≤ length out₀) (f : Filling out₀ out o (escape_from z (drop i s)) (escape s)) where
     abbrev marked : Filling out₀ out o (cons_if need 3 (get_or s i 0 ∷ due)) (escape s)
@@ -101,8 +102,8 @@ module _ (s : List ℕ) (i z : ℕ) (h : length s ≤ i) where
   pub unescape-count-end : (n : ℕ) → n + length (unescape_from z (drop i s)) ≡ length (unescape s) → n ≡ length (unescape s)
   unescape-count-end n e = omega (arith, ap length (unescape-end s i z h), e)
 
-  pub escape-count-end : (n r : ℕ) → r ≡ cond (leb 2 z) (n + 1) n → n + length (escape_from z (drop i s)) ≡ length (escape s) → r ≡ length (escape s)
-  escape-count-end n r er e = omega (arith, er, count-step (leb 2 z) 3 n [], ap length (escape_end s i z h), e)
+  pub escape-count-end : (n k : ℕ) → k ≡ bool_byte (leb 2 z) → n + length (escape_from z (drop i s)) ≡ length (escape s) → n + k ≡ length (escape s)
+  escape-count-end n k ek e = omega (arith, ek, count-step (leb 2 z) 3 n [], ap length (escape_end s i z h), e)
 
   module _ {out₀ out : List ℕ} {o : ℕ} (l : length (escape s) ≤ length out₀) (f : Filling out₀ out o (escape_from z (drop i s)) (escape s)) where
     pub escape-end-room : leb 2 z ≡ true → o < length out

@@ -7,6 +7,7 @@ use native.Mathlib.Numerals.{add-one}
 use native.Mathlib.Omega.{arith}
 use lib.ListN.{length, take, drop, set, length-set, length-append, take-append-drop}
 use lib.Seq.{length-take-le, take-suc-set, drop-set-lt, drop-drop}
+use mir.Val.{bool_byte}
 use Rattle.bitstream.specs.Escapes.{cons_if}
 
 -- of out₀, now out, the first o bytes are written, rest is due, and the two make whole
@@ -59,6 +60,6 @@ finish {out₀} {out} {o} {whole} f =
     (e, sym (take-append-drop o out) ∙ ap (λ (l : List ℕ). l ++ drop o out) (sym (append-nil (take o out)) ∙ f.sofar) ∙ ap (λ (l : List ℕ). whole ++ l) (f.keeps ∙ ap (λ (n : ℕ). drop n out₀) e))
 
 -- the same for a count
-pub count-step : (t : Bool) (b n : ℕ) (l : List ℕ) → cond t (n + 1) n + length l ≡ n + length (cons_if t b l)
+pub count-step : (t : Bool) (b n : ℕ) (l : List ℕ) → n + bool_byte t + length l ≡ n + length (cons_if t b l)
 count-step true b n l = omega arith
-count-step false b n l = refl
+count-step false b n l = omega arith

@@ -46,6 +46,22 @@ fn se_value(k: u32) -> i32
     }
 }
 
+impl Field<u32> {
+    // The se of the same bits.
+    fn signed(self) -> Field<i32>
+        requires { self.value < 4294967295 }
+        ensures value { result.value ≡ se_value self.value }
+        ensures next { result.next ≡ self.next }
+        ensures lacking { result.lacking ≡ self.lacking }
+    {
+        Field {
+            value: se_value(self.value),
+            next: self.next,
+            lacking: self.lacking,
+        }
+    }
+}
+
 // A ue of any length.
 fn long_ue(place: Place) -> Result<Field<u32>, Refusal>
     ensures field { outcome_field result ≡ ue_at place.entry.bytes.now place.entry.bit }
@@ -148,12 +164,7 @@ impl BitReader {
         ensures lacking { is_lacking result ≡ se_lacking bytes.now self.bit_pos }
     {
         let place = Place::new(bytes, self.bit_pos)?;
-        let ue = ue_of(place, code_in(window_alone(bytes, self.bit_pos)))?;
-        Ok(Field {
-            value: se_value(ue.value),
-            next: ue.next,
-            lacking: ue.lacking,
-        })
+        Ok(ue_of(place, code_in(window_alone(bytes, self.bit_pos)))?.signed())
     }
 
     // ue(v), a short one by the table.
@@ -170,12 +181,7 @@ impl BitReader {
         ensures field { outcome_field result ≡ se_at bytes.now self.bit_pos }
         ensures lacking { is_lacking result ≡ se_lacking bytes.now self.bit_pos }
     {
-        let ue = self.ue_by_table(bytes)?;
-        Ok(Field {
-            value: se_value(ue.value),
-            next: ue.next,
-            lacking: ue.lacking,
-        })
+        Ok(self.ue_by_table(bytes)?.signed())
     }
 
     // rbsp_trailing_bits(), clause 7.3.2.16: a 1 bit, then zeros to the end of the byte.

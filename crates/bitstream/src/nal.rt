@@ -31,14 +31,6 @@ fn needs_escape(z: usize, b: u8) -> bool
     z >= 2 && b <= 3
 }
 
-// One more where `yes`.
-fn count_if(n: usize, yes: bool) -> usize
-    requires { n < 1000000 }
-    ensures { result ≡ cond yes (n + 1) n }
-{
-    if yes { n + 1 } else { n }
-}
-
 // Writes b at o where `yes`, and gives the next place.
 fn put_if(out: &mut [u8], o: usize, yes: bool, b: u8) -> usize
     requires { (o ≤ length out.old) × (yes ≡ true → o < length out.old) }
@@ -58,7 +50,7 @@ fn unescaped_len(src: Input<'_>) -> usize
     let mut z = 0;
     let mut n = 0;
     for &b in src.bytes {
-        n = count_if(n, stays(z, b));
+        n += usize::from(stays(z, b));
         z = zero_run(false, z, b);
     }
     n
@@ -87,10 +79,10 @@ fn escaped_len(src: Input<'_>) -> usize
     let mut n = 0;
     for &b in src.bytes {
         let put = needs_escape(z, b);
-        n = count_if(n, put) + 1;
+        n += usize::from(put) + 1;
         z = zero_run(put, z, b);
     }
-    count_if(n, z >= 2)
+    n + usize::from(z >= 2)
 }
 
 // Writes src with escapes put in into out, which has room for it.

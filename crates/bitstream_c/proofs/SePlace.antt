@@ -1,6 +1,7 @@
 -- The bit after a se that was read fits an i64: the start is at most bit 1,048,576, and a code has at most 63 bits.
-use Prim.Native.Nat.{ℕ, ◌+◌, ◌*◌}
+use Prim.Native.Nat.{ℕ, ◌+◌, ◌*◌, ◌≤◌}
 use mathlib.Core.Path.{◌≡◌, refl}
+use mathlib.Core.Bool.{Bool, true, false, cond}
 use mathlib.Core.List.{List}
 use native.Mathlib.Omega.{arith}
 use lib.Dec.{ltb}
@@ -11,7 +12,11 @@ use Rattle.bitstream.specs.Reading.{ue_at, se_at}
 use Rattle.bitstream.proofs.CodeLaws.{ue-value}
 use Rattle.bitstream.proofs.CallLaws.{within-value, se-of-ue}
 use Rattle.bitstream_c.specs.Codes.{PlaceFits}
-use Rattle.bitstream.proofs.EscapeTurns.{cond-most}
+
+-- the place grows by one at most
+cond-most : (t : Bool) (n : ℕ) → cond t (n + 1) n ≤ n + 1
+cond-most true n = omega arith
+cond-most false n = omega arith
 
 ue-fits : (s : List ℕ) (p : ℕ) (o : Outcome ℕ) → o ≡ ue_at s p → PlaceFits o
 unfolding ue_at suffix_at PlaceFits

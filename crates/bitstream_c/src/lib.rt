@@ -11,15 +11,18 @@ ghost use Rattle.bitstream_c.specs.Codes.{code, answered, answered_signed, place
 use bitstream::bit_reader::{BitReader, Field};
 use bitstream::{Refusal, bit_writer, nal};
 
+#[tactic(auto, unfolding(crate::specs::Codes::code, crate::specs::Codes::answered))]
 fn unsigned(read: Result<Field<u32>, Refusal>, answer: &mut [u64; 3]) -> u32
     ensures code { result ≡ code (outcome_field read) }
     ensures answer { answer.new ≡ answered (outcome_field read) (is_lacking read) answer.old }
 {
     match read {
         Ok(field) => {
-            answer[0] = field.value as u64;
-            answer[1] = field.next.bit_pos as u64;
-            answer[2] = field.lacking as u64;
+            *answer = [
+                field.value as u64,
+                field.next.bit_pos as u64,
+                field.lacking as u64,
+            ];
             0
         }
         Err(why) => why.into(),
@@ -27,6 +30,7 @@ fn unsigned(read: Result<Field<u32>, Refusal>, answer: &mut [u64; 3]) -> u32
 }
 
 // The same of a signed field, whose place is one that an i64 holds: C lends an array of i64 here, and a trait over both would be longer.
+#[tactic(auto, unfolding(crate::specs::Codes::code, crate::specs::Codes::answered_signed, crate::specs::Codes::PlaceFits))]
 fn signed(read: Result<Field<i32>, Refusal>, answer: &mut [i64; 3]) -> u32
     requires { PlaceFits (outcome_field read) }
     ensures code { result ≡ code (outcome_field read) }
@@ -34,36 +38,26 @@ fn signed(read: Result<Field<i32>, Refusal>, answer: &mut [i64; 3]) -> u32
 {
     match read {
         Ok(field) => {
-            answer[0] = field.value as i64;
-            answer[1] = field.next.bit_pos as i64;
-            answer[2] = field.lacking as i64;
+            *answer = [
+                field.value as i64,
+                field.next.bit_pos as i64,
+                field.lacking as i64,
+            ];
             0
         }
         Err(why) => why.into(),
     }
 }
 
-fn aligned(read: Result<BitReader, Refusal>, answer: &mut [u64; 1]) -> u32
-    ensures code { result ≡ code (outcome_aligned read) }
-    ensures answer { answer.new ≡ placed (outcome_aligned read) answer.old }
-{
-    match read {
-        Ok(after) => {
-            answer[0] = after.bit_pos as u64;
-            0
-        }
-        Err(why) => why.into(),
-    }
-}
-
-// The place after what was written.
+// The place after what was written or read.
+#[tactic(auto, unfolding(crate::specs::Codes::code, crate::specs::Codes::placed))]
 fn written(place: Result<usize, Refusal>, answer: &mut [u64; 1]) -> u32
     ensures code { (out : List ℕ) → result ≡ code (outcome_written place out) }
     ensures answer { (out : List ℕ) → answer.new ≡ placed (outcome_written place out) answer.old }
 {
     match place {
         Ok(after) => {
-            answer[0] = after as u64;
+            *answer = [after as u64];
             0
         }
         Err(why) => why.into(),
@@ -116,14 +110,15 @@ pub extern "C" fn bitstream_se_by_table(bytes: &[u8], at: usize, answer: &mut [i
 }
 
 #[unsafe(no_mangle)]
+#[tactic(auto, unfolding(crate::specs::Codes::code, crate::specs::Codes::placed))]
 pub extern "C" fn bitstream_trailing(bytes: &[u8], at: usize, answer: &mut [u64; 1]) -> u32
     ensures code { result ≡ code (trailing_at bytes.now at) }
     ensures answer { answer.new ≡ placed (trailing_at bytes.now at) answer.old }
 {
-    aligned(
-        (BitReader { bit_pos: at }).read_rbsp_trailing_bits(bytes),
-        answer,
-    )
+    match (BitReader { bit_pos: at }).read_rbsp_trailing_bits(bytes) {
+        Ok(after) => written(Ok(after.bit_pos), answer),
+        Err(why) => why.into(),
+    }
 }
 
 #[unsafe(no_mangle)]

@@ -5,7 +5,7 @@ ghost use Rattle.std.specs.Prelude.{◌≡◌};
 ghost use Rattle.aps_table.specs.Answers.{stream_answer};
 ghost use Rattle.aps_table.specs.Calls.{stream, answer_to};
 
-use aps::aps::{Alf, ApsHead, Lmcs, Scaling};
+use aps::aps::{Alf, ApsHead, ApsKind, Lmcs, Scaling};
 use aps_table::places::{Table, new_table};
 use aps_table::table::{Counts, lookup_head, take_stream};
 use bitstream::Refusal;
@@ -25,7 +25,6 @@ fn flag(f: bool) {
 }
 
 // Kind, id, chroma flag and extension flag.
-// A kind goes by its number, as `lookup_head` takes it and as it is printed.
 fn print_set(kind: u8, id: u8, head: ApsHead) {
     number(kind.into());
     text(b" ");
@@ -35,7 +34,8 @@ fn print_set(kind: u8, id: u8, head: ApsHead) {
     text(b"\n");
 }
 
-fn print_kind(table: &Table, kind: u8, max_id: u8) {
+fn print_kind(table: &Table, kind: ApsKind, max_id: u8) {
+    let kind = u8::from(kind);
     for id in 0..=max_id {
         if let Ok(head) = lookup_head(table, kind, id) {
             print_set(kind, id, head);
@@ -53,9 +53,9 @@ pub fn print_sets(bytes: &[u8]) -> Result<Counts, Refusal>
     match answer {
         Ok(_) => {
             text(b"kind id chroma ext\n");
-            print_kind(&table, Alf::NUMBER, Alf::MAX_ID);
-            print_kind(&table, Lmcs::NUMBER, Lmcs::MAX_ID);
-            print_kind(&table, Scaling::NUMBER, Scaling::MAX_ID);
+            print_kind(&table, ApsKind::Alf, Alf::MAX_ID);
+            print_kind(&table, ApsKind::Lmcs, Lmcs::MAX_ID);
+            print_kind(&table, ApsKind::Scaling, Scaling::MAX_ID);
         }
         Err(why) => {
             text(b"refused ");
@@ -64,14 +64,4 @@ pub fn print_sets(bytes: &[u8]) -> Result<Counts, Refusal>
         }
     }
     answer
-}
-
-// The same of standard input.
-pub fn print_input() {
-    // A fixed buffer and how much was read: no heap is used.
-    // One byte more than the longest stream, so that a longer one is seen to be longer.
-    let mut input = [0u8; 65537];
-    let n = io::read_full(0, &mut input);
-    // A refusal is printed already.
-    let _ = print_sets(&input[..n]);
 }

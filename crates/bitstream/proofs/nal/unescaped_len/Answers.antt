@@ -3,7 +3,7 @@ use mathlib.Core.Bool.{false}
 use native.Mathlib.Omega.{arith}
 use Prim.Native.Nat.{◌≤◌, ◌<◌}
 use lib.ListN.{length}
-use Rattle.bitstream.proofs.EscapeTurns.{next, unescape-counted, cond-most, unescape-count-end}
+use Rattle.bitstream.proofs.EscapeTurns.{next, unescape-counted, flag-most, unescape-count-end}
 use Rattle.bitstream.proofs.nal.unescaped_len.Goals as goal
 
 pub loop-b-preserved : goal.loop-b-preserved
@@ -12,8 +12,8 @@ loop-b-preserved c =
     let h : l.b-index < length c.args.src.bytes.now = omega arith in
     let m = next c.args.src.bytes.now _ _ h false _ l.invariant.0 c.zero_run-z.ensures in (
       m.1,
-      omega (arith, c.count_if-n.ensures, cond-most c.stays.result l.n),
-      unescape-counted _ _ _ h _ _ _ _ c.stays.ensures c.zero_run-z.ensures c.count_if-n.ensures l.invariant.2,
+      omega (arith, c.from-n.ensures, flag-most c.stays.result),
+      unescape-counted _ _ _ h _ _ _ _ c.stays.ensures c.zero_run-z.ensures c.from-n.ensures l.invariant.2,
     )
 
 pub returns : goal.returns

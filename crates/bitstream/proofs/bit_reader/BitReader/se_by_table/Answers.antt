@@ -1,23 +1,20 @@
 -- `se_by_table`: what the ue at the same bit stands for.
 use Rattle.std.proofs.Common.{rules, ◌≡◌, Err}
-use Rattle.std.proofs.lemmas.Int.{to_z-of_z}
-use mir.Syntax.{w32}
-use mir.Val.{to_z, of_z}
 use Rattle.bitstream.proofs.CallLaws.{se-value, se-refused, ue-below}
 use Rattle.bitstream.proofs.bit_reader.BitReader.se_by_table.Goals as goal
 
-pub returns-in_err-ue : goal.returns-in_err-ue
-returns-in_err-ue c =
-    let e : c.from_residual.result ≡ Err c.in_err-ue.field-0.0 = search rules in
-    let r = se-refused _ _ c.in_err-ue.ensures.field in
+pub returns-in_err-ue_by_table : goal.returns-in_err-ue_by_table
+returns-in_err-ue_by_table c =
+    let e : c.from_residual.result ≡ Err c.in_err-ue_by_table.field-0.0 = search rules in
+    let r = se-refused _ _ c.in_err-ue_by_table.ensures.field in
     rw e (record { field = r.0; lacking = r.1 })
 
-pub se_value-requires : goal.se_value-requires
-se_value-requires c = ue-below _ _ c.in_ok-ue.ensures.field
+pub signed-requires : goal.signed-requires
+signed-requires c = ue-below _ _ c.in_ok-ue_by_table.ensures.field
 
 pub returns : goal.returns
 returns c =
-    let k = c.in_ok-ue.ensures in
+    let k = c.in_ok-ue_by_table.ensures in
+    let s = c.signed.ensures in
     let r = se-value _ _ k.field k.lacking in
-    let z : to_z w32 (of_z w32 c.se_value.result) ≡ c.se_value.result = search (rules, to_z-of_z) in
-    rw (z, c.se_value.ensures) (record { field = r.0; lacking = r.1 })
+    rw (s.value, s.next, s.lacking) (record { field = r.0; lacking = r.1 })
