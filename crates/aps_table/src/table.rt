@@ -24,7 +24,7 @@ pub enum Taken {
 }
 
 // How many units of a stream were accepted, refused and passed over.
-#[derive(Clone, Copy, Debug, PartialEq, Eq)]
+#[derive(Clone, Copy, Debug, Default, PartialEq, Eq)]
 pub struct Counts {
     pub accepted: usize,
     pub refused: usize,
@@ -100,11 +100,7 @@ fn take_units(table: &mut Table, stream: Input<'_>, work: &mut [u8]) -> Counts
     ensures table { table.new ≡ take_units (length work.old) (units_of (split stream.entry.bytes.now)) table.old }
     ensures work { work.new ≡ work_units (units_of (split stream.entry.bytes.now)) work.old }
 {
-    let mut counts = Counts {
-        accepted: 0,
-        refused: 0,
-        passed: 0,
-    };
+    let mut counts = Counts::default();
     let mut rest = Cursor::new(stream);
     // The next place is what the step gives; no index is counted.
     while let Ok(Some(unit)) = rest.next_unit() {
