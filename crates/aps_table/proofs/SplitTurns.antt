@@ -1,21 +1,60 @@
 -- The steps of the split's loops, as facts on lists and places.
+use borrow.Author.Tests.{ltb-false}
 use Prim.Native.Nat.{ℕ, zero, suc, ◌+◌, ◌-◌, ◌≤◌, ◌<◌}
 use mathlib.Core.Path.{◌≡◌, refl, sym, ap, ◌∙◌}
+use mathlib.Core.Bool.{Bool, true, false, cond, not}
 use mathlib.Core.List.{List, [], ◌∷◌, ◌++◌}
 use mathlib.Core.Option.{none, some}
-use native.Mathlib.Nat.{sub_self, add-sub_of_le}
+use native.Mathlib.Nat.{zero-add, add-zero, sub_self, add-sub_of_le}
 use native.Mathlib.Numerals.{add-one}
 use native.Mathlib.Omega.{arith}
+use lib.Dec.{eqb, ltb}
 use lib.ListN.{length, get_or, take, drop, length-drop, drop_of_length-le}
 use lib.Seq.{drop-cons, drop-drop, take-add, take-append_seam, take_all}
+use Rattle.std.proofs.lemmas.List.{get_or-drop}
+use Rattle.std.specs.Prelude.{Option, Some, None}
+use Rattle.std.specs.Option.{MatchOption}
+use Rattle.std.specs.List.{position_or_len}
 use Rattle.aps_table.specs.Split.{Units, prepend, ended, gap, body}
 use Rattle.aps_table.specs.Inner.{Skipped, InUnit, UnitEnd, between}
 use Rattle.aps_table.proofs.SplitLaws.{prepend-nil, prepend-prepend}
 
--- a zero byte outside of a unit
-pub gap-zero : (s : List ℕ) (i z : ℕ) → i < length s → get_or s i 0 ≡ 0 → gap z (drop i s) ≡ gap (z + 1) (drop (i + 1) s)
+-- zero bytes outside of a unit, up to the first other byte or the end
+zeros-first : (z : ℕ) (l : List ℕ)
+    → let n = position_or_len (λ b. not (eqb b 0)) l in (n ≤ length l) × ((n < length l → get_or l n 0 ≡ 0 → ⊥) × (gap z l ≡ gap (z + n) (drop n l)))
 unfolding gap
-gap-zero s i z h e = rw (drop-cons s i 0, e, add-one i, add-one z)
+zeros-first z [] = (omega arith, (λ h e. absurd (omega arith), refl))
+zeros-first z (zero ∷ l) =
+    let n = position_or_len (λ b. not (eqb b 0)) l in
+    let (a, (b, c)) = zeros-first (suc z) l in
+    let p : position_or_len (λ b. not (eqb b 0)) (0 ∷ l) ≡ suc n = omega arith in
+    let m : suc z + n ≡ z + suc n = omega arith in
+    rw p (omega (arith, a), (λ h e. b (omega (arith, h)) e, c ∙ ap (λ (k : ℕ). gap k (drop n l)) m))
+zeros-first z (suc x ∷ l) =
+    let p : position_or_len (λ b. not (eqb b 0)) (suc x ∷ l) ≡ 0 = grind arith in
+    rw p (omega arith, (λ h e. absurd (omega (arith, e)), ap (λ (k : ℕ). gap k (suc x ∷ l)) (sym (add-zero z))))
+
+-- the first place from i on with another byte, or the end
+pub skipped : (s : List ℕ) (i r : ℕ) {o : Option ℕ} → i ≤ length s
+    → let n = position_or_len (λ b. not (eqb b 0)) (drop i s) in o ≡ cond (ltb n (length (drop i s))) (Some n) None → MatchOption o (r ≡ length s) (λ n. r ≡ i + n) → Skipped s i r
+skipped s i r h f g =
+    let (a, (b, c)) = zeros-first 0 (drop i s) in
+    let l = length-drop i s in
+    let e : r ≡ i + n = go (ltb n (length (drop i s))) refl (rw f at g) in
+    let m : r - i ≡ n = omega (arith, e) in
+    record {
+      from = omega (arith, e);
+      to = omega (arith, e, a, l);
+      other = λ k z. b (omega (arith, k, e, l)) (get_or-drop i s n 0 ∙ rw e at z);
+      skips = rw (m, e) (c ∙ rw (zero-add, drop-drop) refl);
+    }
+  where
+    n : ℕ
+    n = position_or_len (λ b. not (eqb b 0)) (drop i s)
+
+    go : (t : Bool) → ltb n (length (drop i s)) ≡ t → MatchOption (cond t (Some n) None) (r ≡ length s) (λ n. r ≡ i + n) → r ≡ i + n
+    go true k g = g
+    go false k g = omega (arith, g, ltb-false _ _ k, (zeros-first 0 (drop i s)).0, length-drop i s)
 
 -- in a unit, a byte that is not 0 makes the bytes up to it the unit's own, and a third byte that is not 0 or 1 does so
 body-one : (x : ℕ) (t : List ℕ) → (x ≡ 0 → ⊥) → body 0 (x ∷ t) ≡ prepend (x ∷ []) (body 0 t)

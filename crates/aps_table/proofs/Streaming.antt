@@ -82,6 +82,10 @@ pub record Streaming (s w₀ t₀ w t : List ℕ) (c : Counts) (i : ℕ) : Type 
   pub table : take_units (length w₀) (left s i) t ≡ take_units (length w₀) (units_of (split s)) t₀
   pub work : work_units (left s i) w ≡ work_units (units_of (split s)) w₀
 
+-- no unit is counted
+pub no-counts : (c : Counts) → (c.accepted ≡ 0) × ((c.refused ≡ 0) × (c.passed ≡ 0)) → c ≡ no_units
+no-counts c e = rw (e.0, e.1.0, e.1.1) refl
+
 -- before the first unit
 pub start : (s w t : List ℕ) → splits (split s) ≡ true → Streaming s w t w t no_units 0
 start s w t h = record { within = omega arith; same = refl; holds = h; few = omega arith; counts = refl; table = refl; work = refl }

@@ -5,6 +5,12 @@ use Rattle.std.specs.Prelude.{ℕ, ◌+◌, ◌-◌, ◌*◌, ◌/◌, ◌≤◌
 use Rattle.std.proofs.Math.Option.{none, some}
 use Rattle.bitstream.specs.Outcome.{Outcome, value, refused, number}
 use Rattle.aps.specs.Kinds.{most_bytes}
+use Rattle.aps.specs.Rbsp.{read_rbsp}
+use Rattle.aps.specs.Reading.{head_of}
+use Rattle.aps.specs.declared.aps.ApsHead.{ApsHead}
+use Rattle.aps.specs.declared.aps.Reading.{Reading}
+use Rattle.aps.specs.declared.aps.VvcAps.{VvcAps}
+use Rattle.aps_table.specs.Places.{held, place_bytes}
 use Rattle.aps_table.specs.declared.list.CutList.{CutList}
 use Rattle.aps_table.specs.declared.split.Unit.{Unit as Next}
 use Rattle.aps_table.specs.Split.{Units, prepend, ended, gap, body}
@@ -72,6 +78,19 @@ Checks r (Err e) = (e ≡ InvalidData) × (splits r ≡ false)
 abbrev pub units_of : Units → List (List ℕ)
 units_of none = []
 units_of (some us) = us
+
+-- ---- the set of a place
+
+-- the set that a place holds, by its head and the bit where it ends
+pub record Owns (t : List ℕ) (k i : ℕ) (r : Reading ApsHead) : Type 0 where
+  pub from : VvcAps
+  pub held-is : held t k i ≡ some from
+  pub read : read_rbsp (place_bytes t k i) ≡ value from r.end
+  pub is : r.value ≡ head_of from
+
+abbrev pub Owned : List ℕ → ℕ → ℕ → Option (Reading ApsHead) → Type 0
+Owned t k i None = held t k i ≡ none
+Owned t k i (Some r) = Owns t k i r
 
 -- ---- the list, put together in a buffer
 

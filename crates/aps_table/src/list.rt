@@ -8,8 +8,8 @@ ghost use Rattle.aps_table.specs.Places.{names, held, present, filled};
 ghost use Rattle.aps_table.specs.List.{coded, entry, joined, listed, write_list};
 
 use crate::places::{ALF_PLACES, LMCS_PLACES, PLACES, Place, SCALING_PLACES, Table};
-use crate::table::head_held;
-use aps::aps::{Alf, Lmcs, Scaling, parse_aps_head};
+use crate::table::own_head;
+use aps::aps::{Alf, Lmcs, Scaling};
 use aps::nal_header::NAL_TYPE_PREFIX_APS;
 use aps::write::{copy_out, write_nal};
 use bitstream::Refusal;
@@ -57,17 +57,13 @@ impl CutList {
         requires { self.old.len + most_listed (number_of place.kind) ≤ LIST_BYTES }
         ensures { written result self.new ≡ joined (so_far self.old) (entry (held table.now (number_of place.kind) place.id)) }
     {
-        let bytes = place.bytes(table);
-        if let Ok(reading) = parse_aps_head(bytes) {
-            let head = reading.value;
-            if place.is_of(head.kind, head.aps_adaptation_parameter_set_id) {
-                if head.aps_extension_flag {
-                    return Err(Refusal::Unsupported);
-                }
-                return self.put_unit(&bytes[..reading.end / 8]);
-            }
+        let Some(reading) = own_head(table, place) else {
+            return Ok(());
+        };
+        if reading.value.aps_extension_flag {
+            return Err(Refusal::Unsupported);
         }
-        Ok(())
+        self.put_unit(&place.bytes(table)[..reading.end / 8])
     }
 
     // All 20 places.
@@ -96,7 +92,7 @@ fn is_held(table: &Table, place: Place) -> bool
     if table[place.at()] != u8::from(place.kind) * 32 + place.id {
         return false;
     }
-    head_held(table, place).is_ok()
+    own_head(table, place).is_some()
 }
 
 // No place holds one.

@@ -39,12 +39,10 @@ impl<'a> Cursor<'a> {
         ensures { Skipped self.entry.bytes.now self.entry.at result }
     {
         let s = self.bytes;
-        for i in self.at..s.len() {
-            if s[i] != 0 {
-                return i;
-            }
-        }
-        s.len()
+        s[self.at..]
+            .iter()
+            .position(|&b| b != 0)
+            .map_or(s.len(), |n| self.at + n)
     }
 
     // What stands from here on, outside of a unit: a unit, or the end. 2: a byte that may not stand there.

@@ -3,7 +3,7 @@ ghost use Rattle.std.specs.Prelude.{◌≡◌, true, false, ◌+◌, ◌≤◌, 
 ghost use Rattle.aps.specs.Unit.{work_after};
 ghost use Rattle.aps.specs.ApsSyntax.{number_of};
 ghost use Rattle.aps_table.specs.Split.{split};
-ghost use Rattle.aps_table.specs.Inner.{splits, units_of};
+ghost use Rattle.aps_table.specs.Inner.{splits, units_of, Owned};
 ghost use Rattle.aps_table.specs.Places.{found_in, held, looked_up};
 ghost use Rattle.aps_table.specs.Taking.{Verdict, is_passed, take_units, work_units, tally, no_units, count as count_of};
 ghost use Rattle.aps_table.specs.Calls.{stream, alone, single, table_after, answer_to, work_after_stream};
@@ -11,7 +11,7 @@ ghost use Rattle.aps_table.specs.Answers.{unit_answer, stream_answer, lookup_ans
 
 use crate::places::{Place, Table};
 use crate::split::Cursor;
-use aps::aps::{ApsHead, VvcAps, parse_aps_head, parse_aps_rbsp};
+use aps::aps::{ApsHead, Reading, VvcAps, parse_aps_head, parse_aps_rbsp};
 use aps::nal_header::parse_nal_header;
 use aps::unit::{is_aps, parse_unit_head};
 use bitstream::{Input, Refusal};
@@ -24,7 +24,7 @@ pub enum Taken {
 }
 
 // How many units of a stream were accepted, refused and passed over.
-#[derive(Clone, Copy, Debug, PartialEq, Eq)]
+#[derive(Clone, Copy, Debug, Default, PartialEq, Eq)]
 pub struct Counts {
     pub accepted: usize,
     pub refused: usize,
@@ -100,11 +100,7 @@ fn take_units(table: &mut Table, stream: Input<'_>, work: &mut [u8]) -> Counts
     ensures table { table.new ≡ take_units (length work.old) (units_of (split stream.entry.bytes.now)) table.old }
     ensures work { work.new ≡ work_units (units_of (split stream.entry.bytes.now)) work.old }
 {
-    let mut counts = Counts {
-        accepted: 0,
-        refused: 0,
-        passed: 0,
-    };
+    let mut counts = Counts::default();
     let mut rest = Cursor::new(stream);
     // The next place is what the step gives; no index is counted.
     while let Ok(Some(unit)) = rest.next_unit() {
@@ -149,17 +145,24 @@ pub fn lookup(table: &Table, kind: u8, id: u8) -> Result<VvcAps, Refusal>
     set_held(table, Place::new(kind, id).ok_or(Refusal::InvalidData)?)
 }
 
-// The head of the set of a place, or 6. One body for it and the set would need a trait with an impl for each, and be longer.
-pub(crate) fn head_held(table: &Table, place: Place) -> Result<ApsHead, Refusal>
-    ensures { head_answer result ≡ head_looked (found_in (held table.now (number_of place.kind) place.id)) }
+// The head of a place's own set and the bit where the set ends, if it holds one. One body for it and the set would need a trait with an impl for each, and be longer.
+pub(crate) fn own_head(table: &Table, place: Place) -> Option<Reading<ApsHead>>
+    ensures { Owned table.now (number_of place.kind) place.id result }
 {
     if let Ok(reading) = parse_aps_head(place.bytes(table)) {
         let head = reading.value;
         if place.is_of(head.kind, head.aps_adaptation_parameter_set_id) {
-            return Ok(head);
+            return Some(reading);
         }
     }
-    Err(Refusal::EmptyPlace)
+    None
+}
+
+// The head of the set of a place, or 6.
+fn head_held(table: &Table, place: Place) -> Result<ApsHead, Refusal>
+    ensures { head_answer result ≡ head_looked (found_in (held table.now (number_of place.kind) place.id)) }
+{
+    Ok(own_head(table, place).ok_or(Refusal::EmptyPlace)?.value)
 }
 
 // Of the set held for a kind and an id its head, and no array: 2; 6.

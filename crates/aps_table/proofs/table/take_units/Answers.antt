@@ -4,7 +4,7 @@ use native.Mathlib.Omega.{arith}
 use mathlib.Core.Path.{ap}
 use lib.ListN.{length}
 use Rattle.aps_table.specs.Inner.{UnitNext}
-use Rattle.aps_table.proofs.Streaming.{start, turn, finish}
+use Rattle.aps_table.proofs.Streaming.{no-counts, start, turn, finish}
 use Rattle.aps_table.proofs.table.take_units.Goals as goal
 use Rattle.aps_table.proofs.table.take_units.Goals.{In-Ok-Some}
 
@@ -13,7 +13,7 @@ following : (c : In-Ok-Some) → UnitNext c.args.stream.bytes.now c.loop-unit.re
 following c = rw (c.in-Ok-Some.field-0-is, c.loop-unit.invariant.0) at c.in-Ok-Some.ensures
 
 pub loop-unit-init : goal.loop-unit-init
-loop-unit-init c = (c.new-rest.ensures.0, rw c.new-rest.ensures.1 (start _ _ _ c.requires))
+loop-unit-init c = (c.new-rest.ensures.0, rw (c.new-rest.ensures.1, no-counts c.default-counts.result c.default-counts.ensures) (start _ _ _ c.requires))
 
 pub with-counts-requires : goal.with-counts-requires
 with-counts-requires c =

@@ -1,15 +1,21 @@
--- `skip_zeros`: zero bytes below i were passed, and the split goes on after them.
-use Prim.Native.Nat.{ℕ, ◌+◌, ◌-◌}
-use mathlib.Core.Path.{◌≡◌, ap, ◌∙◌}
-use native.Mathlib.Omega.{arith}
-use lib.ListN.{drop}
-use Rattle.aps_table.specs.Split.{gap}
-use Rattle.aps_table.proofs.SplitTurns.{gap-zero}
+-- `skip_zeros`: the first byte that is not 0, as std finds it.
+use Prim.Native.Nat.{◌+◌}
+use mathlib.Core.Path.{◌≡◌, ◌∙◌}
+use mathlib.Core.Bool.{not}
+use lib.Dec.{eqb}
+use lib.ListN.{length, drop}
+use Rattle.std.proofs.Common.{rules, tests, arith}
+use Rattle.std.proofs.lemmas.Iterator.{YieldsList-from_slice}
+use Rattle.std.proofs.lemmas.Iterator.Search.{position_from_yields_List}
+use Rattle.std.proofs.lemmas.List.{take_rest}
+use Rattle.std.specs.Option.{MatchOption}
+use Rattle.aps_table.proofs.SplitTurns.{skipped}
 use Rattle.aps_table.proofs.split.Cursor.skip_zeros.Goals as goal
 
-pub loop-i-preserved : goal.loop-i-preserved
-loop-i-preserved c =
+pub returns : goal.returns
+returns c =
     let s = c.args.self.bytes.now in
-    let i = c.loop-i.i in
-    let n : i - c.args.self.at + 1 ≡ i + 1 - c.args.self.at = omega arith in
-    c.loop-i.invariant ∙ gap-zero s i _ c.loop-i-test.true c.if-s-i-ne0.false ∙ ap (λ (n : ℕ). gap n (drop (i + 1) s)) n
+    let at = c.args.self.at in
+    let found = position_from_yields_List (λ b. not (eqb b 0)) _ _ c.position.result c.position.ensures.ran (YieldsList-from_slice (drop at s) (c.iter.ensures.rest ∙ take_rest s at)) (λ x b q k. search (rules, tests)) in
+    let m : MatchOption c.position.result (c.map_or.result ≡ length s) (λ n. c.map_or.result ≡ at + n) = search rules in
+    skipped s at _ (omega (arith, c.args.self.inside)) found m
