@@ -5,8 +5,16 @@ use native.Mathlib.Omega.{arith}
 use Rattle.bitstream.specs.Outcome.{Outcome, value, refused, map_outcome}
 
 -- what is made of the value that o gives
-pub mapped : {A B : Type 0} (f : A → B) {a : A} {b : B} {q t : ℕ} {o : Outcome A} → value a q ≡ o → f a ≡ b → t ≡ q → value b t ≡ map_outcome f o
-mapped f e g h = rw (← g, h) (ap (map_outcome f) e)
+pub mapped : {A B : Type 0} (f : A → B) {a : A} {b : B} {q : ℕ} {o : Outcome A} → value a q ≡ o → f a ≡ b → value b q ≡ map_outcome f o
+mapped f e g = rw (← g) (ap (map_outcome f) e)
+
+-- what was made into o again
+pub remade : {A B : Type 0} (f : A → B) (g : B → A) {r : Outcome A} {o : Outcome B} → ((a : A) → g (f a) ≡ a) → map_outcome f r ≡ o → r ≡ map_outcome g o
+remade {A} f g {r} k e = rw (← e) (go r)
+  where
+    go : (r : Outcome A) → r ≡ map_outcome g (map_outcome f r)
+    go (value a q) = rw (k a) refl
+    go (refused n) = refl
 
 -- the value of which f made b, where o gave one
 pub record Made {A B : Type 0} (f : A → B) (b : B) (q : ℕ) (o : Outcome A) : Type 0 where

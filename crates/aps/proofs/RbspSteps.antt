@@ -21,7 +21,8 @@ use Rattle.std.specs.Prelude.{Result}
 use Rattle.std.specs.Result.{IsErrAnd}
 use Rattle.std.proofs.lemmas.Result.{err_from_is_err_and}
 use Rattle.aps.specs.declared.aps.ApsHead.{ApsHead}
-use Rattle.aps.specs.Inner.{Opens, Headed, set_of, with_extension, ended, finished}
+use Rattle.aps.specs.Inner.{Opens, set_of, with_extension, ended, finished, assembled, extended}
+use Rattle.aps.specs.Heading.{Headed}
 use Rattle.aps.specs.Rbsp.{closed, read_rbsp, parse_aps_rbsp}
 use Rattle.aps.specs.declared.alf.VvcAlfData.{VvcAlfData}
 use Rattle.aps.specs.declared.lmcs.VvcLmcsData.{VvcLmcsData}
@@ -29,6 +30,7 @@ use Rattle.aps.specs.declared.scaling_list.VvcScalingListData.{VvcScalingListDat
 use Rattle.aps.specs.declared.aps.ApsKind.{ApsKind}
 use Rattle.aps.specs.declared.aps.VvcAps.{VvcAps}
 use Rattle.aps.specs.declared.reader.Reader.{Reader}
+use Rattle.aps.specs.declared.opened.Opened.{Opened}
 use Rattle.aps.specs.Reads.{Reads}
 use Rattle.aps.proofs.FieldSteps.{lacks-part, u-here, u-there, flag-here, flag-there}
 use Rattle.aps.proofs.FieldLaws.{lacks-none, lacks-inside}
@@ -161,13 +163,18 @@ ended-finished s a q = first (flag.read s q)
     first (value x r) = last x r (read_trailing s r)
     first (refused n) = refl
 
--- a set whose payload was read: what closes it, or why it is refused
-module _ (s : List ℕ) (set : VvcAps) (q : ℕ) (e : read_rbsp s ≡ finished s set q) where
-  pub set-closed : {x : Bool} {r : ℕ} → value x r ≡ ended s q → value (with_extension set x) r ≡ read_rbsp s
-  set-closed f = ap (map_outcome (with_extension set)) f ∙ ended-finished s set q ∙ sym e
-
-  pub set-open : {n : ℕ} → refused n ≡ ended s q → refused n ≡ read_rbsp s
-  set-open f = ap (map_outcome (with_extension set)) f ∙ ended-finished s set q ∙ sym e
+-- a set whose payload was read, by its head: what closes it, or why it is refused
+pub set-closed : (s : List ℕ) (h : ApsHead) {kind : ApsKind} (d : VvcAlfData) (l : VvcLmcsData) (c : VvcScalingListData) (q : ℕ) {o : Outcome ApsHead}
+    → h.kind ≡ kind → read_rbsp s ≡ finished s (set_of kind h.aps_adaptation_parameter_set_id h.aps_chroma_present_flag d l c) q → o ≡ map_outcome (extended h) (ended s q)
+    → map_outcome (λ h. assembled h d l c) o ≡ read_rbsp s
+unfolding with_extension
+set-closed s h {kind} d l c q k e f = rw f (go (ended s q)) ∙ ended-finished s (set_of kind h.aps_adaptation_parameter_set_id h.aps_chroma_present_flag d l c) q ∙ sym e
+  where
+    go : (o : Outcome Bool)
+        → map_outcome (λ h. assembled h d l c) (map_outcome (extended h) o)
+        ≡ map_outcome (with_extension (set_of kind h.aps_adaptation_parameter_set_id h.aps_chroma_present_flag d l c)) o
+    go (value x r) = rw k refl
+    go (refused n) = refl
 
 -- ---- the limit of the call
 
@@ -186,7 +193,7 @@ pub opened : {s b : List ℕ} → length s ≤ 65536 → b ≡ s → read_rbsp b
 opened {s} short e = ap read_rbsp e ∙ sym (in-limits s short)
 
 -- what `?` returns
-pub opens-exit : (r : Result (Reader × ApsHead) Refusal) (e : Refusal) (s : List ℕ) → IsErrAnd r (λ y. y ≡ e) → parse_aps_rbsp s ≡ refused (number e) → Opens s r
+pub opens-exit : (r : Result Opened Refusal) (e : Refusal) (s : List ℕ) → IsErrAnd r (λ y. y ≡ e) → parse_aps_rbsp s ≡ refused (number e) → Opens s r
 opens-exit r e s h k = let p = err_from_is_err_and r h in rw (p.1, p.2) k
 
 module _ {s : List ℕ} {w0 : Reader} (short : length s ≤ 65536) (new : (w0.bytes.now ≡ s) × (w0.at ≡ 0)) where

@@ -1,14 +1,12 @@
 -- For the proofs' sake: what the inner functions promise each other on the way. No public contract says anything of this file.
-use Rattle.std.specs.Prelude.{◌≡◌, Bool, false, cond, not, List, [], ◌∷◌, ℕ, ◌*◌, ◌/◌, ◌%◌, ◌^◌, ◌≤◌, Result, Ok, Err, eqb, ltb, length, take}
-use Rattle.bitstream.specs.Outcome.{Outcome, value, refused, number, ◌then◌}
-use Rattle.bitstream.specs.Bits.{field_at}
-use Rattle.bitstream.specs.Fields.{lacks, read_trailing}
+use Rattle.std.specs.Prelude.{◌≡◌, Bool, false, cond, List, [], ◌∷◌, ℕ, ◌*◌, ◌/◌, ◌%◌, ◌^◌, ◌≤◌, Result, Ok, Err, ltb, length, take}
+use Rattle.bitstream.specs.Outcome.{Outcome, value, refused, number, map_outcome, ◌then◌}
+use Rattle.bitstream.specs.Fields.{read_trailing}
 use Rattle.bitstream.specs.declared.Refusal.{Refusal}
 use Rattle.aps.specs.Elements.{flag}
-use Rattle.aps.specs.ApsSyntax.{number_of, zero_alf, zero_lmcs, zero_scaling}
-use Rattle.aps.specs.Rbsp.{closed, parse_aps_rbsp}
-use Rattle.aps.specs.Reading.{head_of}
-use Rattle.aps.specs.Reads.{filled}
+use Rattle.aps.specs.ApsSyntax.{zero_alf, zero_lmcs, zero_scaling}
+use Rattle.aps.specs.Rbsp.{closed, read_rbsp, parse_aps_rbsp}
+use Rattle.aps.specs.Reading.{outcome_reading, head_of}
 use Rattle.aps.specs.declared.alf.VvcAlfLuma.{VvcAlfLuma}
 use Rattle.aps.specs.declared.alf.VvcAlfChroma.{VvcAlfChroma}
 use Rattle.aps.specs.declared.alf.VvcAlfCcFilters.{VvcAlfCcFilters}
@@ -18,7 +16,8 @@ use Rattle.aps.specs.declared.lmcs.VvcLmcsData.{VvcLmcsData}
 use Rattle.aps.specs.declared.scaling_list.VvcScalingListData.{VvcScalingListData}
 use Rattle.aps.specs.declared.aps.ApsKind.{ApsKind}
 use Rattle.aps.specs.declared.aps.ApsHead.{ApsHead}
-use Rattle.aps.specs.declared.reader.Reader.{Reader}
+use Rattle.aps.specs.declared.aps.Reading.{Reading}
+use Rattle.aps.specs.declared.opened.Opened.{Opened}
 use Rattle.aps.specs.declared.aps.VvcAps.{VvcAps}
 
 -- ---- reading
@@ -30,13 +29,6 @@ ends_at s q a = cond (ltb (length s * 8) q) (refused 1) (value a q)
 -- six fields of two bits out of twelve bits
 abbrev pub six_of : ℕ → List ℕ
 six_of w = w / 2 ^ 10 ∷ w / 2 ^ 8 % 4 ∷ w / 2 ^ 6 % 4 ∷ w / 2 ^ 4 % 4 ∷ w / 2 ^ 2 % 4 ∷ w % 4 ∷ []
-
--- what stands before the payload: kind, id and chroma flag
-pub record Headed (s : List ℕ) (kind id : ℕ) (chroma : Bool) : Type 0 where
-  pub there : lacks s 0 9 ≡ false
-  pub kind-is : field_at s 0 3 ≡ kind
-  pub id-is : field_at s 3 5 ≡ id
-  pub chroma-is : not (eqb (field_at s 8 1) 0) ≡ chroma
 
 -- a set of each kind before its extension flag is read
 abbrev pub set_of : ApsKind → ℕ → Bool → VvcAlfData → VvcLmcsData → VvcScalingListData → VvcAps
@@ -96,9 +88,15 @@ assembled h d l s =
       scaling = s;
     }
 
--- the head that stands before the payload, but for the extension flag
-abbrev pub Heading : List ℕ → ApsHead → Type 0
-Heading s h = Headed s (number_of h.kind) h.aps_adaptation_parameter_set_id h.aps_chroma_present_flag
+-- the head with the extension flag read
+abbrev pub extended : ApsHead → Bool → ApsHead
+extended h x =
+    record {
+      kind = h.kind;
+      aps_adaptation_parameter_set_id = h.aps_adaptation_parameter_set_id;
+      aps_chroma_present_flag = h.aps_chroma_present_flag;
+      aps_extension_flag = x;
+    }
 
 abbrev pub BareAs : ApsKind → VvcAps → Type 0
 BareAs ApsKind.Alf a = (a.lmcs ≡ zero_lmcs) × (a.scaling ≡ zero_scaling)
@@ -109,16 +107,16 @@ BareAs ApsKind.Scaling a = (a.alf ≡ zero_alf) × (a.lmcs ≡ zero_lmcs)
 abbrev pub Bare : VvcAps → Type 0
 Bare a = BareAs a.kind a
 
--- past a payload: the head of the set that o is the answer of, or why there is none
-pub record Passes (r : Result (Unit {0}) Refusal) (h : ApsHead) (q : ℕ) (o : Outcome VvcAps) : Type 0 where
-  pub set : VvcAps
-  pub read : filled r set q ≡ o
-  pub head : head_of set ≡ h
-  pub bare : Bare set
+-- past the payload of a kind: the head of the set that o is the answer of, or why there is none
+pub record Passes (kind : ApsKind) (r : Result (Reading ApsHead) Refusal) (o : Outcome VvcAps) : Type 0 where
+  pub set : ApsHead → VvcAps
+  pub read : map_outcome set (outcome_reading r) ≡ o
+  pub head : (h : ApsHead) → head_of (set h) ≡ h
+  pub bare : (h : ApsHead) → h.kind ≡ kind → Bare (set h)
 
--- the kind that the first bits name, and the reader at the payload
-abbrev pub Opens : List ℕ → Result (Reader × ApsHead) Refusal → Type 0
-Opens s (Ok x) = (length s ≤ 65536) × (x.0.bytes.now ≡ s) × (x.0.at ≡ 9) × Heading s x.1
+-- what is read of the bytes that were opened, or why they were not
+abbrev pub Opens : List ℕ → Result Opened Refusal → Type 0
+Opens s (Ok x) = read_rbsp x.reader.bytes.now ≡ parse_aps_rbsp s
 Opens s (Err why) = parse_aps_rbsp s ≡ refused (number why)
 
 -- the RBSP of the unit that o is the answer to stands at the start of the work buffer, or there is none

@@ -12,5 +12,6 @@ pub mod Unit
 pub mod Reading
 pub mod Writing
 pub mod Writes
+pub mod Heading
 pub mod Inner
 pub mod Payloads

@@ -8,10 +8,10 @@ ghost use Rattle.aps.specs.Writing.{alf_set};
 
 use crate::alf::{VvcAlfData, parse_alf_data};
 use crate::alf_write::write_alf_data;
-use crate::aps::{Alf, ApsHead, ApsKind};
+use crate::aps::{Alf, ApsHead, ApsKind, Reading};
 use crate::ending::close_rbsp;
+use crate::opened::Opened;
 use crate::payload::Coded;
-use crate::reader::Reader;
 use crate::writer::Writer;
 use bitstream::Refusal;
 
@@ -30,14 +30,15 @@ impl Coded for VvcAlfData {
 
     const KIND: ApsKind = ApsKind::Alf;
 
-    fn read(reader: &mut Reader, head: &mut ApsHead, d: &mut Self) -> Result<(), Refusal> {
-        parse_alf_data(reader, head.aps_chroma_present_flag, d)?;
+    fn read(opened: Opened<'_>, d: &mut Self) -> Result<Reading<ApsHead>, Refusal> {
+        let mut reader = opened.reader;
+        let head = opened.head;
+        parse_alf_data(&mut reader, head.aps_chroma_present_flag, d)?;
         // Its id is judged after its payload.
         if Alf::MAX_ID < head.aps_adaptation_parameter_set_id {
             return Err(Refusal::InvalidData);
         }
-        head.aps_extension_flag = close_rbsp(reader)?;
-        Ok(())
+        close_rbsp(reader, head)
     }
 
     fn write(&self, writer: &mut Writer, chroma: bool) -> Result<(), Refusal> {

@@ -9,6 +9,7 @@ ghost use Rattle.aps.specs.Reading.{outcome_reading, head_of, kind_named};
 
 use crate::alf::VvcAlfData;
 use crate::lmcs::VvcLmcsData;
+use crate::opened::Opened;
 use crate::payload::{Coded, pass_payload};
 use crate::reader::Reader;
 use crate::scaling_list::VvcScalingListData;
@@ -157,9 +158,9 @@ impl Default for VvcAps {
     }
 }
 
-// What stands before the payload, with the extension flag still to be read, and the reader of what follows.
+// What stands before the payload, and the reader of what follows.
 #[inline(always)]
-pub(crate) fn open_rbsp(bytes: &[u8]) -> Result<(Reader<'_>, ApsHead), Refusal>
+pub(crate) fn open_rbsp(bytes: &[u8]) -> Result<Opened<'_>, Refusal>
     ensures { Opens bytes.now result }
 {
     let input = Input::new(bytes)?;
@@ -174,27 +175,28 @@ pub(crate) fn open_rbsp(bytes: &[u8]) -> Result<(Reader<'_>, ApsHead), Refusal>
         aps_chroma_present_flag: chroma,
         ..ApsHead::default()
     };
-    Ok((reader, head))
+    Ok(Opened { reader, head })
 }
 
 // A set out of its RBSP, escapes removed.
 pub fn parse_aps_rbsp(bytes: &[u8]) -> Result<Reading<VvcAps>, Refusal>
     ensures { outcome_reading result ≡ parse_aps_rbsp bytes.now }
 {
-    let (mut reader, mut head) = open_rbsp(bytes)?;
+    let opened = open_rbsp(bytes)?;
     let mut set = VvcAps::default();
-    match head.kind {
-        ApsKind::Alf => VvcAlfData::read(&mut reader, &mut head, &mut set.alf)?,
-        ApsKind::Lmcs => VvcLmcsData::read(&mut reader, &mut head, &mut set.lmcs)?,
-        ApsKind::Scaling => VvcScalingListData::read(&mut reader, &mut head, &mut set.scaling)?,
-    }
+    let reading = match opened.head.kind {
+        ApsKind::Alf => VvcAlfData::read(opened, &mut set.alf)?,
+        ApsKind::Lmcs => VvcLmcsData::read(opened, &mut set.lmcs)?,
+        ApsKind::Scaling => VvcScalingListData::read(opened, &mut set.scaling)?,
+    };
+    let head = reading.value;
     set.kind = head.kind;
     set.aps_adaptation_parameter_set_id = head.aps_adaptation_parameter_set_id;
     set.aps_chroma_present_flag = head.aps_chroma_present_flag;
     set.aps_extension_flag = head.aps_extension_flag;
     Ok(Reading {
         value: set,
-        end: reader.at(),
+        end: reading.end,
     })
 }
 
@@ -202,10 +204,5 @@ pub fn parse_aps_rbsp(bytes: &[u8]) -> Result<Reading<VvcAps>, Refusal>
 pub fn parse_aps_head(bytes: &[u8]) -> Result<Reading<ApsHead>, Refusal>
     ensures { outcome_reading result ≡ map_outcome head_of (parse_aps_rbsp bytes.now) }
 {
-    let (mut reader, mut head) = open_rbsp(bytes)?;
-    pass_payload(&mut reader, &mut head)?;
-    Ok(Reading {
-        value: head,
-        end: reader.at(),
-    })
+    pass_payload(open_rbsp(bytes)?)
 }

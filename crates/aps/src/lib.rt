@@ -15,6 +15,7 @@ pub mod lmcs;
 mod lmcs_set;
 mod lmcs_write;
 pub mod nal_header;
+mod opened;
 pub mod payload;
 mod reader;
 pub mod scaling_list;

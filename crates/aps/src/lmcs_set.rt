@@ -6,12 +6,12 @@ ghost use Rattle.aps.specs.ApsSyntax.{of_lmcs, zero_alf, zero_lmcs, zero_scaling
 ghost use Rattle.aps.specs.declared.aps.ApsKind.{ApsKind};
 ghost use Rattle.aps.specs.Writing.{lmcs_set};
 
-use crate::aps::{ApsHead, ApsKind, Lmcs};
+use crate::aps::{ApsHead, ApsKind, Lmcs, Reading};
 use crate::ending::close_rbsp;
 use crate::lmcs::{VvcLmcsData, parse_lmcs_data};
 use crate::lmcs_write::write_lmcs_data;
+use crate::opened::Opened;
 use crate::payload::Coded;
-use crate::reader::Reader;
 use crate::writer::Writer;
 use bitstream::Refusal;
 
@@ -30,14 +30,15 @@ impl Coded for VvcLmcsData {
 
     const KIND: ApsKind = ApsKind::Lmcs;
 
-    fn read(reader: &mut Reader, head: &mut ApsHead, d: &mut Self) -> Result<(), Refusal> {
+    fn read(opened: Opened<'_>, d: &mut Self) -> Result<Reading<ApsHead>, Refusal> {
+        let mut reader = opened.reader;
+        let head = opened.head;
         // Its id is judged before its payload.
         if Lmcs::MAX_ID < head.aps_adaptation_parameter_set_id {
             return Err(Refusal::InvalidData);
         }
-        parse_lmcs_data(reader, head.aps_chroma_present_flag, d)?;
-        head.aps_extension_flag = close_rbsp(reader)?;
-        Ok(())
+        parse_lmcs_data(&mut reader, head.aps_chroma_present_flag, d)?;
+        close_rbsp(reader, head)
     }
 
     fn write(&self, writer: &mut Writer, chroma: bool) -> Result<(), Refusal> {

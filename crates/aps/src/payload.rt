@@ -1,15 +1,14 @@
 // The payload of a set of one kind: how it is read and written, and the set that it makes.
-ghost use Rattle.std.specs.Prelude.{◌≡◌, Bool, List, ℕ, ◌+◌, ◌≤◌};
+ghost use Rattle.std.specs.Prelude.{◌≡◌, Bool, List, ℕ, ◌+◌, ◌≤◌, IfOk};
 ghost use Rattle.aps.specs.ApsSyntax.{payload, number_of, from_aps};
 ghost use Rattle.aps.specs.ApsSyntax as Syntax;
 ghost use Rattle.aps.specs.Kinds.{largest_id};
 ghost use Rattle.bitstream.specs.Outcome.{left, map_outcome, outcome_written};
 ghost use Rattle.aps.specs.Writing.{write_aps};
 ghost use Rattle.aps.specs.Payloads.{alike};
-ghost use Rattle.aps.specs.Inner.{Heading, Bare, Passes};
+ghost use Rattle.aps.specs.Inner.{Bare, Passes};
 ghost use Rattle.aps.specs.Rbsp.{read_rbsp, parse_aps_rbsp};
 ghost use Rattle.aps.specs.Reading.{outcome_reading, head_of, part_by};
-ghost use Rattle.aps.specs.Reads.{filled};
 ghost use Rattle.aps.specs.Writes.{Wrote};
 ghost use Rattle.aps.specs.declared.aps.ApsHead.{ApsHead};
 ghost use Rattle.aps.specs.declared.aps.ApsKind.{ApsKind};
@@ -18,7 +17,7 @@ ghost use Rattle.aps.specs.declared.aps.VvcAps.{VvcAps};
 use crate::alf::VvcAlfData;
 use crate::aps::{ApsHead, ApsKind, Reading, open_rbsp};
 use crate::lmcs::VvcLmcsData;
-use crate::reader::Reader;
+use crate::opened::Opened;
 use crate::scaling_list::VvcScalingListData;
 use crate::write::{copy_out, put_rbsp};
 use crate::writer::Writer;
@@ -74,10 +73,10 @@ pub(crate) trait Coded: Copy + Default {
     const KIND: ApsKind;
 
     // The payload after its head, its id where it is judged, and what closes the RBSP.
-    fn read(reader: &mut Reader, head: &mut ApsHead, d: &mut Self) -> Result<(), Refusal>
-        requires { (reader.old.at ≡ 9) × (head.old.kind ≡ KIND) × Heading reader.old.bytes.now head.old × (d.old ≡ none) }
-        ensures set { filled result (set head.new d.new) reader.new.at ≡ read_rbsp reader.old.bytes.now }
-        ensures kind { head.new.kind ≡ head.old.kind };
+    fn read(opened: Opened<'_>, d: &mut Self) -> Result<Reading<ApsHead>, Refusal>
+        requires { (opened.head.kind ≡ KIND) × (d.old ≡ none) }
+        ensures set { map_outcome (λ h. set h d.new) (outcome_reading result) ≡ read_rbsp opened.entry.reader.bytes.now }
+        ensures kind { IfOk result (λ r. r.value.kind ≡ opened.entry.head.kind) };
 
     // The payload of a set with an id that its kind has.
     fn write(&self, writer: &mut Writer, chroma: bool) -> Result<(), Refusal>
@@ -110,19 +109,25 @@ impl<P: Coded> Payload for P {
     const KIND: ApsKind = P::KIND;
 
     fn parse_rbsp(bytes: &[u8]) -> Result<Reading<ApsOf<Self>>, Refusal> {
-        let (mut reader, mut head) = open_rbsp(bytes)?;
+        let opened = open_rbsp(bytes)?;
         let mut payload = P::default();
-        if head.kind != P::KIND {
-            pass_payload(&mut reader, &mut head)?;
+        if opened.head.kind != P::KIND {
+            let passed = pass_payload(opened)?;
             return Ok(Reading {
-                value: ApsOf { head, payload },
-                end: reader.at(),
+                value: ApsOf {
+                    head: passed.value,
+                    payload,
+                },
+                end: passed.end,
             });
         }
-        P::read(&mut reader, &mut head, &mut payload)?;
+        let reading = P::read(opened, &mut payload)?;
         Ok(Reading {
-            value: ApsOf { head, payload },
-            end: reader.at(),
+            value: ApsOf {
+                head: reading.value,
+                payload,
+            },
+            end: reading.end,
         })
     }
 
@@ -149,24 +154,23 @@ pub struct ApsOf<P> {
 }
 
 // Reads past a payload, which is not kept.
-fn pass_one<P: Coded>(reader: &mut Reader, head: &mut ApsHead) -> Result<(), Refusal>
-    requires { (reader.old.at ≡ 9) × (head.old.kind ≡ P.KIND) × Heading reader.old.bytes.now head.old }
-    ensures past { Passes result head.new reader.new.at (read_rbsp reader.old.bytes.now) }
-    ensures kind { head.new.kind ≡ head.old.kind }
+fn pass_one<P: Coded>(opened: Opened<'_>) -> Result<Reading<ApsHead>, Refusal>
+    requires { opened.head.kind ≡ P.KIND }
+    ensures past { Passes opened.entry.head.kind result (read_rbsp opened.entry.reader.bytes.now) }
+    ensures kind { IfOk result (λ r. r.value.kind ≡ opened.entry.head.kind) }
 {
     let mut d = P::default();
-    P::read(reader, head, &mut d)
+    P::read(opened, &mut d)
 }
 
 // Reads past the payload of any kind.
-pub(crate) fn pass_payload(reader: &mut Reader, head: &mut ApsHead) -> Result<(), Refusal>
-    requires { (reader.old.at ≡ 9) × Heading reader.old.bytes.now head.old }
-    ensures past { Passes result head.new reader.new.at (read_rbsp reader.old.bytes.now) }
-    ensures kind { head.new.kind ≡ head.old.kind }
+pub(crate) fn pass_payload(opened: Opened<'_>) -> Result<Reading<ApsHead>, Refusal>
+    ensures past { Passes opened.entry.head.kind result (read_rbsp opened.entry.reader.bytes.now) }
+    ensures kind { IfOk result (λ r. r.value.kind ≡ opened.entry.head.kind) }
 {
-    match head.kind {
-        ApsKind::Alf => pass_one::<VvcAlfData>(reader, head),
-        ApsKind::Lmcs => pass_one::<VvcLmcsData>(reader, head),
-        ApsKind::Scaling => pass_one::<VvcScalingListData>(reader, head),
+    match opened.head.kind {
+        ApsKind::Alf => pass_one::<VvcAlfData>(opened),
+        ApsKind::Lmcs => pass_one::<VvcLmcsData>(opened),
+        ApsKind::Scaling => pass_one::<VvcScalingListData>(opened),
     }
 }

@@ -7,10 +7,10 @@ ghost use Rattle.aps.specs.declared.aps.ApsKind.{ApsKind};
 ghost use Rattle.aps.specs.Writing.{scaling_set};
 ghost use Rattle.aps.specs.ScalingSyntax.{look};
 
-use crate::aps::{ApsHead, ApsKind, Scaling};
+use crate::aps::{ApsHead, ApsKind, Reading, Scaling};
 use crate::ending::close_rbsp;
+use crate::opened::Opened;
 use crate::payload::Coded;
-use crate::reader::Reader;
 use crate::scaling_list::VvcScalingListData;
 use crate::scaling_list_data::parse_scaling_list_data;
 use crate::scaling_list_write::write_scaling_list_data;
@@ -32,14 +32,15 @@ impl Coded for VvcScalingListData {
 
     const KIND: ApsKind = ApsKind::Scaling;
 
-    fn read(reader: &mut Reader, head: &mut ApsHead, d: &mut Self) -> Result<(), Refusal> {
-        parse_scaling_list_data(reader, head.aps_chroma_present_flag, d)?;
+    fn read(opened: Opened<'_>, d: &mut Self) -> Result<Reading<ApsHead>, Refusal> {
+        let mut reader = opened.reader;
+        let head = opened.head;
+        parse_scaling_list_data(&mut reader, head.aps_chroma_present_flag, d)?;
         // Its id is judged after its payload.
         if Scaling::MAX_ID < head.aps_adaptation_parameter_set_id {
             return Err(Refusal::InvalidData);
         }
-        head.aps_extension_flag = close_rbsp(reader)?;
-        Ok(())
+        close_rbsp(reader, head)
     }
 
     fn write(&self, writer: &mut Writer, chroma: bool) -> Result<(), Refusal> {

@@ -5,7 +5,7 @@ use native.Mathlib.Omega.{arith}
 use Rattle.aps.specs.ApsSyntax.{aps, aps_syntax}
 use Rattle.aps.proofs.ClipSteps.{read-lt}
 use Rattle.aps.proofs.ReaderLaws.{reads-via, reads-▷, reads-▷-first}
-use Rattle.aps.proofs.RbspSteps.{opens-exit, open-refused, headed, other-kind, in-limits, too_long}
+use Rattle.aps.proofs.RbspSteps.{opened, opens-exit, open-refused, headed, other-kind, in-limits, too_long}
 use Rattle.aps.proofs.aps.open_rbsp.Goals as goal
 
 pub returns-in_err-input : goal.returns-in_err-input
@@ -43,7 +43,12 @@ returns-in_err-kind c =
 pub overflow_cast-head : goal.overflow_cast-head
 overflow_cast-head c = record { fits = omega (arith, read-lt 5 c.in_ok-id.ensures) }
 
+pub invariant_of-result : goal.invariant_of-result
+invariant_of-result c =
+    let h = headed c.in_ok-input.ensures.short (rw c.in_ok-input.ensures.ok at c.new-reader.ensures) c.in_ok-number.ensures c.in_ok-id.ensures c.in_ok-chroma.ensures in
+    record { first = h.2; heading = rw (h.1, ← c.in_ok-kind.ensures) h.0 }
+
 pub returns : goal.returns
 returns c =
     let h = headed c.in_ok-input.ensures.short (rw c.in_ok-input.ensures.ok at c.new-reader.ensures) c.in_ok-number.ensures c.in_ok-id.ensures c.in_ok-chroma.ensures in
-    (c.in_ok-input.ensures.short, h.1, h.2, rw c.in_ok-kind.ensures at h.0)
+    opened c.in_ok-input.ensures.short h.1
