@@ -99,7 +99,7 @@ impl TryFrom<u8> for ApsKind {
     }
 }
 
-// A set: its kind beside the arrays of all three; those of the other two are 0 when it was read.
+// A set, with the Rust's fields: its kind beside the arrays of all three; those of the other two are 0 when it was read.
 #[derive(Clone, Copy)]
 pub struct VvcAps {
     pub kind: ApsKind,

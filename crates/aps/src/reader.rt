@@ -9,7 +9,7 @@ use bitstream::window::window;
 use bitstream::{Input, Refusal};
 
 // The `left` highest of `bits` are the bits from bit `at` on, zeros past the end.
-// Lent to its methods and not moved through them: a refusal leaves it where it was.
+// Lent to its methods and not moved through them: a refusal leaves it where it was. The bytes and not an Input, since contracts name them at each field.
 #[derive(Clone, Copy)]
 pub(crate) struct Reader<'a> {
     bytes: &'a [u8],
@@ -231,7 +231,7 @@ impl<'a> Reader<'a> {
     }
 }
 
-// The se that a short ue stands for.
+// The se that a short ue stands for. That of bitstream asks for the ue's range too, which no public function may.
 fn se_of(k: u32) -> i32
     requires { k < 1000 }
     ensures { (result ≡ se_value k) × (nat_abs result ≤ 500) }

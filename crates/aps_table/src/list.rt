@@ -95,7 +95,7 @@ fn is_held(table: &Table, place: Place) -> bool
     own_head(table, place).is_some()
 }
 
-// No place holds one.
+// No place holds one. By `all` its law speaks of a run over the range, and the proof would be longer than the loop's.
 fn is_bare(table: &Table) -> bool
     ensures { result ≡ eqb (filled (held table.now)) 0 }
 {
