@@ -80,7 +80,7 @@ pub fn aps_parse_rbsp(bytes: &[u8], set: &mut [i64; NUMBERS], end: &mut [u64; 1]
     answered(parse_aps_rbsp(bytes), set, end)
 }
 
-// The bit where reading ended, whatever was read.
+// The bit where reading ended, whatever was read. As `sized` of the mapped answer it would need a law of what map makes of a reading, and be longer.
 pub(crate) fn ended<T: Copy>(answer: Result<Reading<T>, Refusal>, end: &mut [u64; 1]) -> u32
     ensures code { result ≡ code (outcome_reading answer) }
     ensures end { end.new ≡ place_left (outcome_reading answer) end.old }
