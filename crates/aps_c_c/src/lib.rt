@@ -12,8 +12,8 @@ ghost use Rattle.aps_table.specs.Calls.{alone, answer_to, stream, table_after, w
 ghost use Rattle.aps_table.specs.List.{write_list};
 ghost use Rattle.aps_c.specs.TableCodes.{answer_code, counts_left, flags_left, look_code, set_left};
 
-use aps::aps::ApsKind;
 use aps::alf::VvcAlfData;
+use aps::aps::ApsKind;
 use aps::lmcs::VvcLmcsData;
 use aps::scaling_list::VvcScalingListData;
 use aps_c::NUMBERS;
