@@ -127,7 +127,7 @@ pub struct ApsHead {
     pub aps_extension_flag: bool,
 }
 
-// Every field zero, false or the first case.
+// Every field zero, false or the first case. Written out, the law is the description's set.
 impl Default for ApsHead {
     ghost is_default = { λ h. h ≡ head_of empty_set };
 

@@ -19,7 +19,7 @@ pub struct VvcLmcsData {
     pub lmcs_delta_sign_crs_flag: bool,
 }
 
-// Nothing sent.
+// Nothing sent. Written out as ALF's parts are.
 impl Default for VvcLmcsData {
     ghost is_default = { λ d. d ≡ zero_lmcs };
 
@@ -112,7 +112,7 @@ fn read_codewords(
     Ok(())
 }
 
-// lmcs_data(), into a record of zeros.
+// lmcs_data(), of which the chroma flag is a parameter, into a record of zeros.
 pub(crate) fn parse_lmcs_data(
     reader: &mut Reader,
     chroma: bool,

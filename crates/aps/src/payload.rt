@@ -38,7 +38,7 @@ pub trait Payload: Copy {
     fn parse_rbsp(bytes: &[u8]) -> Result<Reading<ApsOf<Self>>, Refusal>
         ensures { outcome_reading result ≡ map_outcome (part_by part) (parse_aps_rbsp bytes.now) };
 
-    // A set as an RBSP.
+    // A set as an RBSP. Not by a head: that has the kind too, which the type says.
     fn write_rbsp(
         &self,
         id: u8,
@@ -72,7 +72,7 @@ pub(crate) trait Coded: Copy + Default {
 
     const KIND: ApsKind;
 
-    // The payload after its head, its id where it is judged, and what closes the RBSP.
+    // The payload after its head, its id where it is judged, and what closes the RBSP. One body would ask each kind for that order, and need a contract of the payload alone.
     fn read(opened: Opened<'_>, d: &mut Self) -> Result<Reading<ApsHead>, Refusal>
         requires { (opened.head.kind ≡ KIND) × (d.old ≡ none) }
         ensures set { map_outcome (λ h. set h d.new) (outcome_reading result) ≡ read_rbsp opened.entry.reader.bytes.now }

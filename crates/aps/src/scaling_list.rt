@@ -16,7 +16,7 @@ pub struct VvcScalingListData {
 // Bit i: position i of the diagonal scan (6.5.2) is in column 4 or more and row 4 or more.
 const CORNER: u64 = 0xFFDC_6080_0000_0000;
 
-// Nothing sent.
+// Nothing sent. Written out as ALF's parts are.
 impl Default for VvcScalingListData {
     ghost is_default = { λ d. d ≡ zero_scaling };
 

@@ -10,7 +10,7 @@ ghost use Rattle.aps.specs.Writes.{Wrote, written, unsent};
 use bitstream::Refusal;
 use bitstream::bit_writer::{write_bits, write_rbsp_trailing_bits, write_se, write_ue};
 
-// The bits of a set on their way: the first `at` bits of the buffer are written. Each part says what room it asks and what it takes; these differ, so no one invariant holds them.
+// The bits of a set on their way: the first `at` bits of the buffer are written. Each part says what room it asks and what it takes; these differ, so no one invariant holds them. A fixed buffer: no heap is used.
 #[derive(Drop)]
 pub(crate) struct Writer {
     pub(crate) buffer: [u8; 4096],

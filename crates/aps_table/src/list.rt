@@ -19,7 +19,7 @@ pub const LIST_BYTES: usize = ALF_PLACES * (6 + Alf::MAX_BYTES * 3 / 2)
     + LMCS_PLACES * (6 + Lmcs::MAX_BYTES * 3 / 2)
     + SCALING_PLACES * (6 + Scaling::MAX_BYTES * 3 / 2);
 
-// The list so far, in a buffer that has room for any.
+// The list so far, in a buffer that has room for any: no heap is used.
 #[derive(Drop)]
 struct CutList {
     buffer: [u8; LIST_BYTES],
