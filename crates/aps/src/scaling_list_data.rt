@@ -103,7 +103,7 @@ fn read_id(
     Ok(())
 }
 
-// scaling_list_data(), into a record of zeros.
+// scaling_list_data(), of which the chroma flag is a parameter, into a record of zeros.
 pub(crate) fn parse_scaling_list_data(
     reader: &mut Reader,
     chroma: bool,
