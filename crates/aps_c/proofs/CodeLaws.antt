@@ -1,10 +1,10 @@
 -- What is returned and left in the lent arrays, from what an outcome equals.
 use Prim.Native.Nat.{ℕ}
-use mathlib.Core.Path.{◌≡◌, refl, sym, ap, ◌∙◌}
+use mathlib.Core.Path.{◌≡◌, refl}
 use mathlib.Core.List.{List}
 use lib.IntN.{ℤ}
-use lib.ListN.{set, length}
-use lib.Seq.{sets, length-sets}
+use lib.ListN.{set}
+use lib.Seq.{sets}
 use Rattle.bitstream.specs.Outcome.{Outcome, value, refused, map_outcome}
 use Rattle.aps.specs.declared.aps.VvcAps.{VvcAps}
 use Rattle.aps.specs.declared.nal_header.VvcNalHeader.{VvcNalHeader}
@@ -56,12 +56,3 @@ module _ {o : Outcome VvcNalHeader} (l : List ℕ) where
   pub header_refused : {e : ℕ} → o ≡ refused e → l ≡ header_left o l
   unfolding header_left
   header_refused h = rw h
-
-length-numbers : (o : Outcome VvcAps) (l : List ℤ) → length (numbers_left o l) ≡ length l
-unfolding numbers_left
-length-numbers (value a p) l = length-sets l 0 (numbers a)
-length-numbers (refused e) l = refl
-
--- a list as long as what is left of l is as long as l
-pub as_long : (o : Outcome VvcAps) (l k m : List ℤ) → k ≡ numbers_left o l → length m ≡ length k → length l ≡ length m
-as_long o l k m e f = sym (f ∙ ap length e ∙ length-numbers o l)

@@ -2,7 +2,7 @@
 use mathlib.Core.Path.{◌≡◌, sym, ap, ◌∙◌}
 use mathlib.Core.Bool.{true, false, ◌&&◌}
 use mathlib.Core.List.{List}
-use mathlib.Core.Option.{Option, none, some}
+use mathlib.Core.Option.{Option, some}
 use Prim.Native.Nat.{ℕ, ◌/◌}
 use native.Mathlib.Omega.{arith}
 use lib.Dec.{eqb}
@@ -19,7 +19,7 @@ use Rattle.aps.proofs.RbspSteps.{in-limits}
 use Rattle.aps_table.specs.Places.{Names, place_bytes, under, held, extended}
 use Rattle.aps_table.specs.List.{coded, entry, joined}
 use Rattle.aps_table.proofs.PlaceSteps.{place-few, held-read}
-use Rattle.aps_table.proofs.ListLaws.{joined-last, due-extended, due-plain}
+use Rattle.aps_table.proofs.ListLaws.{due-extended, due-plain}
 
 -- a place holds what its bytes are read as
 module _ (t s : List ℕ) (k i : ℕ) (n : Names k i) (b : s ≡ place_bytes t k i) where
@@ -33,10 +33,6 @@ module _ (t s : List ℕ) (k i : ℕ) (n : Names k i) (b : s ≡ place_bytes t k
 pub own-head : (k i : ℕ) {h : ApsHead} (a : VvcAps) → h ≡ head_of a
     → (eqb (number_of h.kind) k && eqb h.aps_adaptation_parameter_set_id i) ≡ (eqb (number_of a.kind) k && eqb a.aps_adaptation_parameter_set_id i)
 own-head k i a e = ap (λ h. eqb (number_of h.kind) k && eqb h.aps_adaptation_parameter_set_id i) e
-
--- no set: the bytes stay
-pub held_none : (l : List ℕ) (p : ℕ) {h : Option VvcAps} → h ≡ none → value l p ≡ joined (value l p) (entry h)
-held_none l p e = rw e (sym (joined-last (value l p)))
 
 -- a set with extension flag 1
 pub held-extended : (l : List ℕ) (p : ℕ) (a : VvcAps) {h : Option VvcAps} → h ≡ some a → a.aps_extension_flag ≡ true → refused 3 ≡ joined (value l p) (entry h)

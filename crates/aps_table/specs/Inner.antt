@@ -4,7 +4,7 @@ use Rattle.bitstream.specs.declared.Refusal.TheVariants.{InvalidData}
 use Rattle.std.specs.Prelude.{ℕ, ◌+◌, ◌-◌, ◌*◌, ◌/◌, ◌≤◌, ◌<◌, ◌≡◌, Bool, true, false, List, [], length, get_or, take, drop, Option, None, Some, Result, Ok, Err}
 use Rattle.std.proofs.Math.Option.{none, some}
 use Rattle.bitstream.specs.Outcome.{Outcome, value, refused, number}
-use Rattle.aps.specs.Kinds.{most_bytes}
+use Rattle.aps.specs.Kinds.{largest_id, most_bytes}
 use Rattle.aps.specs.Rbsp.{read_rbsp}
 use Rattle.aps.specs.Reading.{head_of}
 use Rattle.aps.specs.declared.aps.ApsHead.{ApsHead}
@@ -106,3 +106,7 @@ written (Err e) l = refused (number e)
 -- the most bytes of a unit in the list: start code, header, and the RBSP with escapes put in
 abbrev pub most_listed : ℕ → ℕ
 most_listed k = 6 + most_bytes k * 3 / 2
+
+-- the room of a list: as many of these as each kind has ids
+abbrev pub list_bytes : ℕ
+list_bytes = (largest_id 0 + 1) * most_listed 0 + (largest_id 1 + 1) * most_listed 1 + (largest_id 2 + 1) * most_listed 2

@@ -28,11 +28,12 @@ struct CutList {
 }
 
 impl CutList {
-    ghost use Rattle.aps_table.specs.Inner.{so_far, written, most_listed};
+    ghost use Rattle.aps_table.specs.Inner.{so_far, written, most_listed, list_bytes};
 
-    // Nothing is in it yet.
+    // Nothing is in it yet; its room is just what every list fits into.
     fn new() -> Self
-        ensures { result.len ≡ 0 }
+        ensures empty { result.len ≡ 0 }
+        ensures room { LIST_BYTES ≡ list_bytes }
     {
         CutList {
             buffer: [0; LIST_BYTES],
