@@ -5,7 +5,7 @@ ghost use Rattle.std.specs.Prelude.{◌≡◌};
 ghost use Rattle.aps_table.specs.Answers.{stream_answer};
 ghost use Rattle.aps_table.specs.Calls.{stream, answer_to};
 
-use aps::aps::{Alf, ApsHead, ApsKind, Lmcs, Scaling};
+use aps::aps::{ApsHead, ApsKind};
 use aps_table::places::{Table, new_table};
 use aps_table::table::{Counts, lookup_head, take_stream};
 use bitstream::Refusal;
@@ -25,8 +25,8 @@ fn flag(f: bool) {
 }
 
 // Kind, id, chroma flag and extension flag.
-fn print_set(kind: u8, id: u8, head: ApsHead) {
-    number(kind.into());
+fn print_set(kind: ApsKind, id: u8, head: ApsHead) {
+    number(u8::from(kind).into());
     text(b" ");
     number(id.into());
     flag(head.aps_chroma_present_flag);
@@ -34,10 +34,9 @@ fn print_set(kind: u8, id: u8, head: ApsHead) {
     text(b"\n");
 }
 
-fn print_kind(table: &Table, kind: ApsKind, max_id: u8) {
-    let kind = u8::from(kind);
-    for id in 0..=max_id {
-        if let Ok(head) = lookup_head(table, kind, id) {
+fn print_kind(table: &Table, kind: ApsKind) {
+    for id in 0..=kind.max_id() {
+        if let Ok(head) = lookup_head(table, kind.into(), id) {
             print_set(kind, id, head);
         }
     }
@@ -53,9 +52,9 @@ pub fn print_sets(bytes: &[u8]) -> Result<Counts, Refusal>
     match answer {
         Ok(_) => {
             text(b"kind id chroma ext\n");
-            print_kind(&table, ApsKind::Alf, Alf::MAX_ID);
-            print_kind(&table, ApsKind::Lmcs, Lmcs::MAX_ID);
-            print_kind(&table, ApsKind::Scaling, Scaling::MAX_ID);
+            print_kind(&table, ApsKind::Alf);
+            print_kind(&table, ApsKind::Lmcs);
+            print_kind(&table, ApsKind::Scaling);
         }
         Err(why) => {
             text(b"refused ");
