@@ -93,9 +93,9 @@ module _ (set : VvcAps) where
   due-plain x = ap (λ (b : Bool). cond b (refused 3) (rbsp_due set)) x
 
   -- a set that the description does not take is refused
-  pub due-refused : {before after : Writer} {why : Refusal} → before.at ≡ 0 → Wrote aps set before after (Err why) → refused (number why) ≡ rbsp_due set
+  pub due-refused : {before after : Writer} {why : Refusal} → Wrote aps set before after (Err why) → refused (number why) ≡ rbsp_due set
   unfolding writes rbsp_due
-  due-refused {before} {why = why} z w = go (aps.ok set) w.answer
+  due-refused {before} {why = why} w = go (aps.ok set) w.answer
     where
       go : (b : Bool) → refused (number why) ≡ cond b (value (put_bits before.buffer before.at (aps.emit set)) (before.at + length (aps.emit set))) (refused 2)
           → refused (number why) ≡ cond b (value (rbsp_bytes set) (length (rbsp_bytes set))) (refused 2)

@@ -36,10 +36,10 @@ pub stays : {w : Reader} → Stands w w
 stays = record { bytes = refl; place = refl }
 
 -- what `?` returns
-pub given-exit : {A : Type 0} (r : Result A Refusal) (e : Refusal) (q : ℕ) {o : Outcome A} → IsErrAnd r (λ y. y ≡ e) → refused (number e) ≡ o → given r q ≡ o
+given-exit : {A : Type 0} (r : Result A Refusal) (e : Refusal) (q : ℕ) {o : Outcome A} → IsErrAnd r (λ y. y ≡ e) → refused (number e) ≡ o → given r q ≡ o
 given-exit r e q h k = let p = err_from_is_err_and r h in rw (p.1, p.2) k
 
-pub filled-exit : {T A : Type 0} (r : Result T Refusal) (e : Refusal) (a : A) (q : ℕ) {o : Outcome A} → IsErrAnd r (λ y. y ≡ e) → refused (number e) ≡ o → filled r a q ≡ o
+filled-exit : {T A : Type 0} (r : Result T Refusal) (e : Refusal) (a : A) (q : ℕ) {o : Outcome A} → IsErrAnd r (λ y. y ≡ e) → refused (number e) ≡ o → filled r a q ≡ o
 filled-exit r e a q h k = let p = err_from_is_err_and r h in rw (p.1, p.2) k
 
 module _ {A : Type 0} {c : Codec A} {w0 w1 : Reader} where

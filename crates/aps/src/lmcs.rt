@@ -1,9 +1,10 @@
 // lmcs_data(), H.266 7.3.2.19.
 ghost use Rattle.std.specs.Prelude.{◌≡◌, true, false, replicate, IfOk, IfErr};
+ghost use Rattle.bitstream.specs.Outcome.{map_outcome};
 ghost use Rattle.bitstream.specs.declared.Refusal.TheVariants.{InvalidData};
 ghost use Rattle.aps.specs.LmcsSyntax.{in_range, lmcs_head, lmcs_codewords, lmcs};
 ghost use Rattle.aps.specs.ApsSyntax.{zero_lmcs};
-ghost use Rattle.aps.specs.Reads.{filled, Reads};
+ghost use Rattle.aps.specs.Reads.{given, filled, Reads};
 
 use crate::reader::Reader;
 use bitstream::Refusal;
@@ -75,21 +76,13 @@ impl Bins {
 }
 
 // The smallest bin, the delta of the largest one and the precision - 1: all three are read, then judged.
-fn read_head(reader: &mut Reader, d: &mut VvcLmcsData) -> Result<Bins, Refusal>
-    ensures bins { IfOk result (λ bins. (bins.min ≡ d.new.lmcs_min_bin_idx) × (bins.max ≡ d.new.lmcs_delta_max_bin_idx) × (bins.prec ≡ d.new.lmcs_delta_cw_prec_minus1)) }
-    ensures field { Reads lmcs_head (filled result (d.new.lmcs_min_bin_idx, (d.new.lmcs_delta_max_bin_idx, d.new.lmcs_delta_cw_prec_minus1)) reader.new.at)
-        reader.old reader.new }
-    ensures others { (d.new.lmcs_delta_abs_cw ≡ d.old.lmcs_delta_abs_cw) × (d.new.lmcs_delta_sign_cw_flag ≡ d.old.lmcs_delta_sign_cw_flag)
-        × (d.new.lmcs_delta_abs_crs ≡ d.old.lmcs_delta_abs_crs) × (d.new.lmcs_delta_sign_crs_flag ≡ d.old.lmcs_delta_sign_crs_flag) }
+fn read_head(reader: &mut Reader) -> Result<Bins, Refusal>
+    ensures { Reads lmcs_head (map_outcome (λ bins. (bins.min, (bins.max, bins.prec))) (given result reader.new.at)) reader.old reader.new }
 {
     let min = reader.ue()?;
     let max = reader.ue()?;
     let prec = reader.ue()?;
-    let bins = Bins::new(min, max, prec)?;
-    d.lmcs_min_bin_idx = min;
-    d.lmcs_delta_max_bin_idx = max;
-    d.lmcs_delta_cw_prec_minus1 = prec;
-    Ok(bins)
+    Bins::new(min, max, prec)
 }
 
 // Bins min to 15 - max, into arrays of zeros.
@@ -121,7 +114,10 @@ pub(crate) fn parse_lmcs_data(
     requires { d.old ≡ zero_lmcs }
     ensures { Reads (lmcs chroma) (filled result d.new reader.new.at) reader.old reader.new }
 {
-    let bins = read_head(reader, d)?;
+    let bins = read_head(reader)?;
+    d.lmcs_min_bin_idx = bins.min;
+    d.lmcs_delta_max_bin_idx = bins.max;
+    d.lmcs_delta_cw_prec_minus1 = bins.prec;
     read_codewords(
         reader,
         bins,

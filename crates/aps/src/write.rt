@@ -21,9 +21,9 @@ use bitstream::{Input, Refusal};
 
 // A set up to its extension flag, which is 0: what stands before the payload, the payload and the flag.
 fn put_set<P: Coded>(writer: &mut Writer, id: u8, chroma: bool, d: &P) -> Result<(), Refusal>
-    requires { writer.old.at ≡ 0 }
+    requires { writer.old.at ≤ 90 }
     ensures wrote { (a : VvcAps) → from_aps a ≡ (number_of P.KIND, (id, (chroma, (P.sent chroma d.now, false)))) → Wrote aps a writer.old writer.new result }
-    ensures within { writer.new.at ≤ 31258 }
+    ensures within { writer.new.at ≤ writer.old.at + 31258 }
 {
     writer.u(u32::from(u8::from(P::KIND)), 3)?;
     writer.u(u32::from(id), 5)?;
