@@ -10,7 +10,7 @@ use crate::alf_fields::{clips_sent, read_clips, read_coefficients};
 use crate::reader::Reader;
 use bitstream::Refusal;
 
-// One alternative, a row of three arrays of C's layout: its coefficients, and at once its clips. Those that are sent are read alike, whichever it is and however many there are.
+// One alternative, a row of the record's three flat arrays: its coefficients, and at once its clips. Those that are sent are read alike, whichever it is and however many there are.
 fn read_alternative(
     reader: &mut Reader,
     clip: bool,
@@ -26,27 +26,24 @@ fn read_alternative(
     Ok(())
 }
 
-// The alternatives, one after another: each is a row of the arrays.
-fn read_alternatives(
-    reader: &mut Reader,
-    clip: bool,
-    count_minus1: u32,
-    abs: &mut [u32; 48],
-    sign: &mut [bool; 48],
-    clips: &mut [u8; 48],
-) -> Result<(), Refusal>
-    requires { (count_minus1 ≤ 7) × (abs.old ≡ replicate 48 0) × (sign.old ≡ replicate 48 false) × (clips.old ≡ replicate 48 0) }
-    ensures field { Reads (alternatives clip count_minus1) (filled result (zipped abs.new sign.new, clips.new) reader.new.at) reader.old reader.new }
-    ensures sizes { (length abs.new ≡ 48) × (length sign.new ≡ 48) }
+// The alternatives that the record announces, one after another: each is a row of its arrays.
+fn read_alternatives(reader: &mut Reader, filters: &mut VvcAlfChroma) -> Result<(), Refusal>
+    requires { (filters.old.alf_chroma_num_alt_filters_minus1 ≤ 7) × (filters.old.coeff_abs ≡ replicate 48 0) × (filters.old.coeff_sign ≡ replicate 48 false) × (filters.old.clip_idx ≡ replicate 48 0) }
+    ensures field { Reads (alternatives filters.old.alf_chroma_clip_flag filters.old.alf_chroma_num_alt_filters_minus1)
+        (filled result (zipped filters.new.coeff_abs filters.new.coeff_sign, filters.new.clip_idx) reader.new.at) reader.old reader.new }
+    ensures others { (filters.new.alf_chroma_clip_flag ≡ filters.old.alf_chroma_clip_flag)
+        × (filters.new.alf_chroma_num_alt_filters_minus1 ≡ filters.old.alf_chroma_num_alt_filters_minus1) }
+    ensures sizes { (length filters.new.coeff_abs ≡ 48) × (length filters.new.coeff_sign ≡ 48) }
 {
-    for row in 0..count_minus1 as usize + 1 {
+    let clip = filters.alf_chroma_clip_flag;
+    for row in 0..filters.alf_chroma_num_alt_filters_minus1 as usize + 1 {
         let i = 6 * row;
         read_alternative(
             reader,
             clip,
-            &mut abs[i..i + 6],
-            &mut sign[i..i + 6],
-            &mut clips[i..i + 6],
+            &mut filters.coeff_abs[i..i + 6],
+            &mut filters.coeff_sign[i..i + 6],
+            &mut filters.clip_idx[i..i + 6],
         )?;
     }
     Ok(())
@@ -68,18 +65,11 @@ pub(crate) fn read_chroma(
     let count_minus1 = reader.ue_to(7)?;
     filters.alf_chroma_clip_flag = clip;
     filters.alf_chroma_num_alt_filters_minus1 = count_minus1;
-    read_alternatives(
-        reader,
-        clip,
-        count_minus1,
-        &mut filters.coeff_abs,
-        &mut filters.coeff_sign,
-        &mut filters.clip_idx,
-    )?;
+    read_alternatives(reader, filters)?;
     Ok(())
 }
 
-// The coefficients of Cb or Cr.
+// The coefficients of Cb or Cr. Arrays are lent and no record, as for the alternatives.
 fn read_cc_coefficients(
     reader: &mut Reader,
     count_minus1: u32,

@@ -85,7 +85,7 @@ fn read_head(reader: &mut Reader) -> Result<Bins, Refusal>
     Bins::new(min, max, prec)
 }
 
-// Bins min to 15 - max, into arrays of zeros.
+// Bins min to 15 - max, into arrays of zeros. They are lent and no record: so nothing has to say that its other fields stay.
 fn read_codewords(
     reader: &mut Reader,
     bins: Bins,

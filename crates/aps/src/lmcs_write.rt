@@ -39,7 +39,7 @@ fn put_head(writer: &mut Writer, bins: Bins) -> Result<(), Refusal>
     writer.ue_to(bins.prec, 14)
 }
 
-// The codewords of bins min to 15 - max; those of the other bins are 0.
+// The codewords of bins min to 15 - max; those of the other bins are 0. By index, not zipped: a bin's number says whether it is coded.
 fn put_codewords(writer: &mut Writer, bins: Bins, curve: &VvcLmcsData) -> Result<(), Refusal>
     requires { writer.old.at ≤ 31000 }
     ensures wrote { Wrote (lmcs_codewords (bins.min, (bins.max, bins.prec))) (from_lmcs curve.now).1.0 writer.old writer.new result }

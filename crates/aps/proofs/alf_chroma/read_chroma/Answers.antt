@@ -32,6 +32,7 @@ pub returns : goal.returns
 unfolding chroma_syntax to_chroma
 returns c =
     let k = c.read_alternatives in
+    let d = k.new.filters in
     let same = k.ensures.sizes.0 ∙ sym k.ensures.sizes.1 in
-    rw (firsts-zipped k.new.abs k.new.sign same, seconds-zipped k.new.abs k.new.sign same) at
+    rw (firsts-zipped d.coeff_abs d.coeff_sign same, seconds-zipped d.coeff_abs d.coeff_sign same, ← k.ensures.others.0, ← k.ensures.others.1) at
     (chroma-sent c.if-not-signal.false (reads-▷ _ c.in_ok-clip.ensures (reads-▷ _ c.in_ok-count_minus1.ensures c.in_ok-read_alternatives.ensures.field)))
