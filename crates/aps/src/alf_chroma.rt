@@ -69,21 +69,19 @@ pub(crate) fn read_chroma(
     Ok(())
 }
 
-// The coefficients of Cb or Cr. Arrays are lent and no record, as for the alternatives.
-fn read_cc_coefficients(
-    reader: &mut Reader,
-    count_minus1: u32,
-    abs: &mut [u8; 28],
-    sign: &mut [bool; 28],
-) -> Result<(), Refusal>
-    requires { (count_minus1 ≤ 3) × (abs.old ≡ replicate 28 0) × (sign.old ≡ replicate 28 false) }
-    ensures { Reads (cc_coefficients count_minus1) (filled result (abs.new, sign.new) reader.new.at) reader.old reader.new }
+// The coefficients of Cb or Cr that the record announces.
+fn read_cc_coefficients(reader: &mut Reader, filters: &mut VvcAlfCcFilters) -> Result<(), Refusal>
+    requires { (filters.old.filters_signalled_minus1 ≤ 3) × (filters.old.mapped_coeff_abs ≡ replicate 28 0) × (filters.old.coeff_sign ≡ replicate 28 false) }
+    ensures field { Reads (cc_coefficients filters.old.filters_signalled_minus1)
+        (filled result (filters.new.mapped_coeff_abs, filters.new.coeff_sign) reader.new.at) reader.old reader.new }
+    ensures others { filters.new.filters_signalled_minus1 ≡ filters.old.filters_signalled_minus1 }
 {
     let mut held = *reader;
-    for i in 0..7 * (count_minus1 as usize + 1) {
+    // By index: tried as iter_mut of both zipped, after which a proof knows nothing of what was written.
+    for i in 0..7 * (filters.filters_signalled_minus1 as usize + 1) {
         let (magnitude, negative) = held.signed(3)?;
-        abs[i] = magnitude as u8;
-        sign[i] = negative;
+        filters.mapped_coeff_abs[i] = magnitude as u8;
+        filters.coeff_sign[i] = negative;
     }
     *reader = held;
     Ok(())
@@ -103,11 +101,6 @@ pub(crate) fn read_cc(
     }
     let count_minus1 = reader.ue_to(3)?;
     filters.filters_signalled_minus1 = count_minus1;
-    read_cc_coefficients(
-        reader,
-        count_minus1,
-        &mut filters.mapped_coeff_abs,
-        &mut filters.coeff_sign,
-    )?;
+    read_cc_coefficients(reader, filters)?;
     Ok(())
 }

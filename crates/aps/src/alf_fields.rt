@@ -32,6 +32,7 @@ pub(crate) fn read_coefficients(
         (filled result (abs.new, sign.new) reader.new.at) reader.old reader.new }
 {
     let mut held = *reader;
+    // By index: tried as iter_mut of both zipped, after which a proof knows their lengths and not what was written.
     for i in 0..n {
         let (a, s) = held.coefficient()?;
         abs[i] = a;
@@ -63,6 +64,7 @@ pub(crate) fn read_clips(reader: &mut Reader, rows: usize, clips: &mut [u8]) -> 
         (filled result clips.new reader.new.at) reader.old reader.new }
 {
     let mut held = *reader;
+    // By index: tried as chunks_exact_mut and as_chunks_mut, after which a proof knows the length and not what was written.
     for row in 0..rows {
         let six = six_clips(held.u(12, 12)?);
         clips[6 * row..6 * row + 6].copy_from_slice(&six);

@@ -96,6 +96,7 @@ fn read_codewords(
     ensures { Reads (lmcs_codewords (bins.min, (bins.max, bins.prec))) (filled result (abs.new, sign.new) reader.new.at) reader.old reader.new }
 {
     let mut held = *reader;
+    // By index: zipped, a proof would not know what was written, as for ALF's coefficients.
     for i in bins.min as usize..16 - bins.max as usize {
         let (magnitude, negative) = held.signed(bins.prec + 1)?;
         abs[i] = magnitude;

@@ -18,8 +18,9 @@ pub returns-in_err-read_cc_coefficients : goal.returns-in_err-read_cc_coefficien
 unfolding cc_syntax
 returns-in_err-read_cc_coefficients c =
     fills-exit _ _ _ _ c.from_residual-in_err-read_cc_coefficients.ensures.1
-    (cc-sent c.if-not-signal.false (reads-▷ _ c.in_ok-count_minus1.ensures c.in_err-read_cc_coefficients.ensures))
+    (cc-sent c.if-not-signal.false (reads-▷ _ c.in_ok-count_minus1.ensures c.in_err-read_cc_coefficients.ensures.field))
 
 pub returns : goal.returns
 unfolding cc_syntax to_cc
-returns c = cc-sent c.if-not-signal.false (reads-▷ _ c.in_ok-count_minus1.ensures c.in_ok-read_cc_coefficients.ensures)
+returns c =
+    rw (← c.read_cc_coefficients.ensures.others) at (cc-sent c.if-not-signal.false (reads-▷ _ c.in_ok-count_minus1.ensures c.in_ok-read_cc_coefficients.ensures.field))
