@@ -29,9 +29,9 @@ fn read_sums(reader: &mut Reader, id: ListId, dc: i32, list: &mut [i32]) -> Resu
 {
     let mut held = *reader;
     let mut sum = dc;
-    for i in 0..list.len() {
+    for (i, entry) in list.iter_mut().enumerate() {
         sum = read_step(&mut held, id, i, sum)?;
-        list[i] = sum;
+        *entry = sum;
     }
     *reader = held;
     Ok(())
