@@ -1,7 +1,5 @@
 // scaling_list_data(), H.266 7.3.2.20.
-ghost use Rattle.std.specs.Prelude.{◌≡◌, ◌%◌};
-ghost use Rattle.aps.specs.ScalingSyntax.{skipped, matrix_size, entries, max_id_delta, id_coded, delta_sent};
-ghost use Rattle.aps.specs.ApsSyntax.{zero_scaling};
+ghost use Rattle.std.specs.Prelude.{◌≡◌, ◌%◌, ◌<◌};
 
 // List id is at 64 * id of the flat array, in the order of the diagonal scan.
 #[derive(Clone, Copy)]
@@ -18,6 +16,8 @@ const CORNER: u64 = 0xFFDC_6080_0000_0000;
 
 // Nothing sent. Written out as ALF's parts are.
 impl Default for VvcScalingListData {
+    ghost use Rattle.aps.specs.ApsSyntax.{zero_scaling};
+
     ghost is_default = { λ d. d ≡ zero_scaling };
 
     fn default() -> Self {
@@ -31,75 +31,86 @@ impl Default for VvcScalingListData {
     }
 }
 
-// matrix_size.
-pub(crate) fn matrix_size(id: usize) -> usize
-    ensures { result ≡ matrix_size id }
-{
-    if id < 2 {
-        return 2;
-    }
-    if id < 8 {
-        return 4;
-    }
-    8
+// A list's id, 0 to 27.
+#[derive(Clone, Copy)]
+pub(crate) struct ListId {
+    pub(crate) number: usize,
+    ghost below: { number < 28 },
 }
 
-// matrix_size * matrix_size.
-pub(crate) fn matrix_entries(id: usize) -> usize
-    ensures { result ≡ entries id }
-{
-    let n = matrix_size(id);
-    n * n
-}
+impl ListId {
+    ghost use Rattle.aps.specs.ScalingSyntax.{skipped, matrix_size, entries, max_id_delta, id_coded, delta_sent};
 
-// max_id_delta (101).
-pub(crate) fn max_id_delta(id: usize) -> usize
-    ensures { result ≡ max_id_delta id }
-{
-    if id < 2 {
-        return id;
+    // matrix_size.
+    pub(crate) fn matrix_size(self) -> usize
+        ensures { result ≡ matrix_size self.number }
+    {
+        if self.number < 2 {
+            return 2;
+        }
+        if self.number < 8 {
+            return 4;
+        }
+        8
     }
-    if id < 8 {
-        return id - 2;
-    }
-    id - 8
-}
 
-// The syntax codes id under this chroma flag.
-pub(crate) fn scaling_id_coded(id: usize, chroma: bool) -> bool
-    ensures { result ≡ id_coded chroma id }
-{
-    if chroma {
-        return true;
+    // matrix_size * matrix_size.
+    pub(crate) fn matrix_entries(self) -> usize
+        ensures { result ≡ entries self.number }
+    {
+        let n = self.matrix_size();
+        n * n
     }
-    if id % 3 == 2 {
-        return true;
-    }
-    id == 27
-}
 
-// A step of id that is not read, at a position of the 64.
-pub(crate) fn step_skipped(id: usize, i: usize) -> bool
-    ensures { result ≡ skipped id (i % 64) }
-{
-    if 25 < id {
-        return (CORNER >> (i % 64) as u64) % 2 == 1;
+    // max_id_delta (101).
+    pub(crate) fn max_id_delta(self) -> usize
+        ensures { result ≡ max_id_delta self.number }
+    {
+        if self.number < 2 {
+            return self.number;
+        }
+        if self.number < 8 {
+            return self.number - 2;
+        }
+        self.number - 8
     }
-    false
-}
 
-// scaling_list_pred_id_delta is sent for an id that is copied or predicted, but for the first of each size.
-pub(crate) fn delta_sent(id: usize, used: bool) -> bool
-    ensures { result ≡ delta_sent id used }
-{
-    if !used {
-        return false;
+    // The syntax codes it under this chroma flag.
+    pub(crate) fn scaling_id_coded(self, chroma: bool) -> bool
+        ensures { result ≡ id_coded chroma self.number }
+    {
+        if chroma {
+            return true;
+        }
+        if self.number % 3 == 2 {
+            return true;
+        }
+        self.number == 27
     }
-    if id == 0 {
-        return false;
+
+    // A step of it that is not read, at a position of the 64.
+    pub(crate) fn step_skipped(self, i: usize) -> bool
+        ensures { result ≡ skipped self.number (i % 64) }
+    {
+        if 25 < self.number {
+            return (CORNER >> (i % 64) as u64) % 2 == 1;
+        }
+        false
     }
-    if id == 2 {
-        return false;
+
+    // scaling_list_pred_id_delta is sent for an id that is copied or predicted, but for the first of each size.
+    pub(crate) fn delta_sent(self, used: bool) -> bool
+        ensures { result ≡ delta_sent self.number used }
+    {
+        if !used {
+            return false;
+        }
+        if self.number == 0 {
+            return false;
+        }
+        if self.number == 2 {
+            return false;
+        }
+        self.number != 8
     }
-    id != 8
 }

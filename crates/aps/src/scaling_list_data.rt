@@ -6,18 +6,16 @@ ghost use Rattle.aps.specs.ScalingStore.{blank, stored_in, id_in, kept};
 ghost use Rattle.aps.specs.ScalingSyntax.{entries, step_at, sums, dc_at, delta_at};
 
 use crate::reader::Reader;
-use crate::scaling_list::{
-    VvcScalingListData, delta_sent, matrix_entries, max_id_delta, scaling_id_coded, step_skipped,
-};
+use crate::scaling_list::{ListId, VvcScalingListData};
 use bitstream::Refusal;
 
 // The sum at position i, after prev.
 #[inline(always)]
-fn read_step(reader: &mut Reader, id: usize, i: usize, prev: i32) -> Result<i32, Refusal>
+fn read_step(reader: &mut Reader, id: ListId, i: usize, prev: i32) -> Result<i32, Refusal>
     requires { (i < 64) × (nat_abs prev ≤ 9000) }
-    ensures { Reads (step_at id i prev) (given result reader.new.at) reader.old reader.new }
+    ensures { Reads (step_at id.number i prev) (given result reader.new.at) reader.old reader.new }
 {
-    if step_skipped(id, i) {
+    if id.step_skipped(i) {
         return Ok(prev);
     }
     let delta = reader.se8()?;
@@ -25,80 +23,78 @@ fn read_step(reader: &mut Reader, id: usize, i: usize, prev: i32) -> Result<i32,
 }
 
 // The sums of id after its DC.
-fn read_sums(reader: &mut Reader, id: usize, dc: i32, list: &mut [i32]) -> Result<(), Refusal>
-    requires { (length list.old ≡ entries id) × (nat_abs dc ≤ 128) }
-    ensures { Reads (sums id 0 (entries id) dc) (filled result list.new reader.new.at) reader.old reader.new }
+fn read_sums(reader: &mut Reader, id: ListId, dc: i32, list: &mut [i32]) -> Result<(), Refusal>
+    requires { (length list.old ≡ entries id.number) × (nat_abs dc ≤ 128) }
+    ensures { Reads (sums id.number 0 (entries id.number) dc) (filled result list.new reader.new.at) reader.old reader.new }
 {
     let mut held = *reader;
     let mut sum = dc;
-    for i in 0..list.len() {
+    for (i, entry) in list.iter_mut().enumerate() {
         sum = read_step(&mut held, id, i, sum)?;
-        list[i] = sum;
+        *entry = sum;
     }
     *reader = held;
     Ok(())
 }
 
 // scaling_list_dc_coef, above id 13.
-fn read_dc(reader: &mut Reader, id: usize) -> Result<i32, Refusal>
-    ensures { Reads (dc_at id) (given result reader.new.at) reader.old reader.new }
+fn read_dc(reader: &mut Reader, id: ListId) -> Result<i32, Refusal>
+    ensures { Reads (dc_at id.number) (given result reader.new.at) reader.old reader.new }
 {
-    if id <= 13 {
+    if id.number <= 13 {
         return Ok(0);
     }
     reader.se8()
 }
 
 // The DC of an id above 13.
-fn store_dc(dc: &mut [i32; 14], id: usize, value: i32)
-    requires { id < 28 }
-    ensures { dc.new ≡ cond (ltb 13 id) (set dc.old (id - 14) value) dc.old }
+fn store_dc(dc: &mut [i32; 14], id: ListId, value: i32)
+    ensures { dc.new ≡ cond (ltb 13 id.number) (set dc.old (id.number - 14) value) dc.old }
 {
-    if 13 < id {
-        dc[id - 14] = value;
+    if 13 < id.number {
+        dc[id.number - 14] = value;
     }
 }
 
 // scaling_list_pred_id_delta.
-fn read_delta(reader: &mut Reader, id: usize, used: bool) -> Result<u32, Refusal>
-    requires { (id < 28) }
-    ensures { Reads (delta_at id used) (given result reader.new.at) reader.old reader.new }
+fn read_delta(reader: &mut Reader, id: ListId, used: bool) -> Result<u32, Refusal>
+    ensures { Reads (delta_at id.number used) (given result reader.new.at) reader.old reader.new }
 {
-    if !delta_sent(id, used) {
+    if !id.delta_sent(used) {
         return Ok(0);
     }
-    reader.ue_to(max_id_delta(id) as u32)
+    reader.ue_to(id.max_id_delta() as u32)
 }
 
 // One id, of which nothing is stored yet; an uncoded one is a copy.
 fn read_id(
     reader: &mut Reader,
     chroma: bool,
-    id: usize,
+    id: ListId,
     d: &mut VvcScalingListData,
 ) -> Result<(), Refusal>
-    requires { (id < 28) × (stored_in d.old id blank ≡ d.old) }
-    ensures { Reads (id_in d.old chroma id) (filled result d.new reader.new.at) reader.old reader.new }
+    requires { stored_in d.old id.number blank ≡ d.old }
+    ensures { Reads (id_in d.old chroma id.number) (filled result d.new reader.new.at) reader.old reader.new }
 {
-    if !scaling_id_coded(id, chroma) {
-        d.copy_mode_flag[id] = true;
+    if !id.scaling_id_coded(chroma) {
+        d.copy_mode_flag[id.number] = true;
         return Ok(());
     }
     let copy = reader.flag()?;
     if copy {
         let delta = read_delta(reader, id, true)?;
-        d.copy_mode_flag[id] = true;
-        d.pred_id_delta[id] = delta;
+        d.copy_mode_flag[id.number] = true;
+        d.pred_id_delta[id.number] = delta;
         return Ok(());
     }
     let pred = reader.flag()?;
     let delta = read_delta(reader, id, pred)?;
     let dc = read_dc(reader, id)?;
-    let first = 64 * id;
-    let end = first + matrix_entries(id);
+    let first = 64 * id.number;
+    let end = first + id.matrix_entries();
     read_sums(reader, id, dc, &mut d.scaling_list[first..end])?;
-    d.pred_mode_flag[id] = pred;
-    d.pred_id_delta[id] = delta;
+    d.pred_mode_flag[id.number] = pred;
+    d.pred_id_delta[id.number] = delta;
     store_dc(&mut d.dc_coef, id, dc);
     Ok(())
 }
@@ -112,7 +108,8 @@ pub(crate) fn parse_scaling_list_data(
     requires { d.old ≡ zero_scaling }
     ensures { Reads (kept chroma) (filled result d.new reader.new.at) reader.old reader.new }
 {
-    for id in 0..28 {
+    for number in 0..28 {
+        let id = ListId { number };
         read_id(reader, chroma, id, d)?;
     }
     Ok(())

@@ -10,7 +10,7 @@ pub returns-then-not-delta_sent : goal.returns-then-not-delta_sent
 returns-then-not-delta_sent c = reads-unsent _ _ no_number (sym c.delta_sent.ensures ∙ c.if-not-delta_sent.true) stays
 
 pub overflow_cast-max_id_delta : goal.overflow_cast-max_id_delta
-overflow_cast-max_id_delta c = record { fits = omega (arith, c.max_id_delta.ensures, max_id_delta-le c.args.id, c.requires) }
+overflow_cast-max_id_delta c = record { fits = omega (arith, c.max_id_delta.ensures, max_id_delta-le c.args.id.number) }
 
 pub returns : goal.returns
 returns c = reads-sent _ no_number (sym c.delta_sent.ensures ∙ c.if-not-delta_sent.false) (rw c.max_id_delta.ensures at c.ue_to.ensures)

@@ -25,17 +25,17 @@ use Rattle.std.proofs.lemmas.Int.{to_z-of_z as to_z-of_z'}
 use Rattle.aps.proofs.scaling_list_data.read_id.Goals as goal
 use Rattle.aps.proofs.scaling_list_data.read_id.Goals.{In_ok-copy}
 
-coded : (c : In_ok-copy) → id_coded c.args.chroma c.args.id ≡ true
+coded : (c : In_ok-copy) → id_coded c.args.chroma c.args.id.number ≡ true
 coded c = sym c.scaling_id_coded.ensures ∙ c.if-not-scaling_id_coded.false
 
 pub returns-then-not-scaling_id_coded : goal.returns-then-not-scaling_id_coded
 unfolding stored_in
 returns-then-not-scaling_id_coded c =
-    let b = c.requires.1 in
+    let b = c.requires in
     let d = c.args.d.now in
     let e = sym c.scaling_id_coded.ensures ∙ c.if-not-scaling_id_coded.true in
-    let r = reads-unsent (id_coded c.args.chroma c.args.id) (entry_syntax c.args.id) {w0 = c.args.reader.now} no_entry e stays in
-    rw (no-pred d c.args.id b, no-delta d c.args.id b, no-dc d c.args.id b) at (reads-via (stored_in d c.args.id) (λ x. no_entry.default) (λ x. true) r)
+    let r = reads-unsent (id_coded c.args.chroma c.args.id.number) (entry_syntax c.args.id.number) {w0 = c.args.reader.now} no_entry e stays in
+    rw (no-pred d c.args.id.number b, no-delta d c.args.id.number b, no-dc d c.args.id.number b) at (reads-via (stored_in d c.args.id.number) (λ x. no_entry.default) (λ x. true) r)
 
 pub returns-in_err-copy : goal.returns-in_err-copy
 unfolding entry_syntax
@@ -54,13 +54,13 @@ returns-in_err-delta c =
 pub returns-then-copy : goal.returns-then-copy
 unfolding entry_syntax stored_in
 returns-then-copy c =
-    let b = c.requires.1 in
+    let b = c.requires in
     let d = c.args.d.now in
     let f = rw c.if-copy.true at c.in_ok-copy.ensures in
-    let r : Reads (id_at c.args.chroma c.args.id) (value (true, (false, (c.in_ok-delta.delta, (pos 0, [])))) c.read_delta.new.reader.at) c.args.reader.now c.read_delta.new.reader
+    let r : Reads (id_at c.args.chroma c.args.id.number) (value (true, (false, (c.in_ok-delta.delta, (pos 0, [])))) c.read_delta.new.reader.at) c.args.reader.now c.read_delta.new.reader
     = reads-sent _ no_entry (coded (goal.at.returns-then-copy c).In_ok-copy)
     (reads-▷ _ f (reads-▷ _ (reads-unsent _ _ no_flag refl stays) (reads-▷ _ c.in_ok-delta.ensures (reads-unsent _ _ (no_pair (just (pos 0)) no_entries) refl stays)))) in
-    rw (no-pred d c.args.id b, no-dc d c.args.id b) at (reads-via (stored_in d c.args.id) (λ x. no_entry.default) (λ x. true) r)
+    rw (no-pred d c.args.id.number b, no-dc d c.args.id.number b) at (reads-via (stored_in d c.args.id.number) (λ x. no_entry.default) (λ x. true) r)
 
 pub returns-in_err-pred : goal.returns-in_err-pred
 unfolding entry_syntax
@@ -88,17 +88,17 @@ returns-in_err-dc c =
     (reads-sent _ (no_pair (just (pos 0)) no_entries) refl (reads-▷-first _ c.in_err-dc.ensures)))))))
 
 pub overflow_add-end : goal.overflow_add-end
-overflow_add-end c = record { fits = omega (arith, c.requires.0, c.matrix_entries.ensures, entries-le c.args.id) }
+overflow_add-end c = record { fits = omega (arith, c.matrix_entries.ensures, entries-le c.args.id.number) }
 
 pub slice_bounds-read_sums-end : goal.slice_bounds-read_sums-end
-slice_bounds-read_sums-end c = omega (arith, c.requires.0, c.matrix_entries.ensures, entries-le c.args.id)
+slice_bounds-read_sums-end c = omega (arith, c.matrix_entries.ensures, entries-le c.args.id.number)
 
 pub read_sums-requires : goal.read_sums-requires
 read_sums-requires c =
-    let e : 64 * c.args.id + c.matrix_entries.result - 64 * c.args.id ≡ c.matrix_entries.result = omega arith in
+    let e : 64 * c.args.id.number + c.matrix_entries.result - 64 * c.args.id.number ≡ c.matrix_entries.result = omega arith in
     let n : length c.args.d.now.scaling_list ≡ 1792 = search rules in
     let f : to_z w32 (of_z w32 c.in_ok-dc.dc) ≡ c.in_ok-dc.dc = search (rules, to_z-of_z') in
-    (rw e (length-take-le _ _ (omega (arith, length-drop (64 * c.args.id) c.args.d.now.scaling_list, n, c.requires.0, c.matrix_entries.ensures, entries-le c.args.id)) ∙ c.matrix_entries.ensures), rw f (given Small (sym c.in_ok-dc.ensures.field) (dc-small c.args.id _ _)))
+    (rw e (length-take-le _ _ (omega (arith, length-drop (64 * c.args.id.number) c.args.d.now.scaling_list, n, c.matrix_entries.ensures, entries-le c.args.id.number)) ∙ c.matrix_entries.ensures), rw f (given Small (sym c.in_ok-dc.ensures.field) (dc-small c.args.id.number _ _)))
 
 pub returns-in_err-read_sums : goal.returns-in_err-read_sums
 unfolding entry_syntax coefficients
@@ -113,7 +113,7 @@ returns-in_err-read_sums c =
 pub returns : goal.returns
 unfolding entry_syntax coefficients stored_in
 returns c =
-    let id = c.args.id in
+    let id = c.args.id.number in
     let d = c.args.d.now in
     let list = c.read_sums.new.list in
     let g : to_z w32 (of_z w32 c.in_ok-dc.dc) ≡ c.in_ok-dc.dc = search (rules, to_z-of_z') in
@@ -125,6 +125,6 @@ returns c =
     = reads-sent _ no_entry (coded (goal.at.returns c).In_ok-copy)
     (reads-▷ _ f (reads-▷ _ (reads-sent _ no_flag refl c.in_ok-pred.ensures) (reads-▷ _ c.in_ok-delta-2.ensures
     (reads-sent _ (no_pair (just (pos 0)) no_entries) refl (reads-▷ _ c.in_ok-dc.ensures (rw g at c.in_ok-read_sums.ensures)))))) in
-    let s = part-stored d.scaling_list list (64 * id) _ m (omega (arith, n, e, c.requires.0, c.matrix_entries.ensures, entries-le id)) in
+    let s = part-stored d.scaling_list list (64 * id) _ m (omega (arith, n, e, c.matrix_entries.ensures, entries-le id)) in
     rw (s, c.store_dc.ensures, g)
-    (rw (no-copy d id c.requires.1) at (reads-via (stored_in d id) (λ x. no_entry.default) (λ x. true) r))
+    (rw (no-copy d id c.requires) at (reads-via (stored_in d id) (λ x. no_entry.default) (λ x. true) r))

@@ -24,13 +24,13 @@ sum_fits c = abs-fits _ (omega (arith, c.requires.1, add-abs c.in_ok-delta.delta
 
 pub returns-then-step_skipped : goal.returns-then-step_skipped
 returns-then-step_skipped c =
-    let e = position c.args.id c.args.i c.requires.0 ∙ sym c.step_skipped.ensures ∙ c.if-step_skipped.true in
+    let e = position c.args.id.number c.args.i c.requires.0 ∙ sym c.step_skipped.ensures ∙ c.if-step_skipped.true in
     rw (to_z-of_z c.ranges.prev) (reads-unsent _ _ (just c.args.prev) (ap not e) stays)
 
 pub returns-in_err-delta : goal.returns-in_err-delta
 unfolding step
 returns-in_err-delta c =
-    let e = position c.args.id c.args.i c.requires.0 ∙ sym c.step_skipped.ensures ∙ c.if-step_skipped.false in
+    let e = position c.args.id.number c.args.i c.requires.0 ∙ sym c.step_skipped.ensures ∙ c.if-step_skipped.false in
     reads-exit _ _ _ c.from_residual.ensures.1 (reads-sent _ (just c.args.prev) (ap not e) (reads-via _ _ _ c.in_err-delta.ensures))
 
 pub overflow_add-result : goal.overflow_add-result
@@ -39,6 +39,6 @@ overflow_add-result c = rw (delta-is (goal.at.overflow_add-result c).In_ok-delta
 pub returns : goal.returns
 unfolding step
 returns c =
-    let e = position c.args.id c.args.i c.requires.0 ∙ sym c.step_skipped.ensures ∙ c.if-step_skipped.false in
+    let e = position c.args.id.number c.args.i c.requires.0 ∙ sym c.step_skipped.ensures ∙ c.if-step_skipped.false in
     let k = (goal.at.returns c).In_ok-delta in
     rw (delta-is k, to_z-of_z c.ranges.prev, to_z-of_z (sum_fits k)) (reads-sent _ (just c.args.prev) (ap not e) (reads-via _ _ _ c.in_ok-delta.ensures))

@@ -17,7 +17,7 @@ dc-is c = to_z-of_z c.ranges.dc
 
 pub read_step-requires : goal.read_step-requires
 read_step-requires c =
-    let n = entries-le c.args.id in
+    let n = entries-le c.args.id.number in
     (omega (arith, n, c.requires.0), omega (arith, n, c.requires.0, c.loop-i.invariant.small))
 
 pub returns-in_err-sum : goal.returns-in_err-sum

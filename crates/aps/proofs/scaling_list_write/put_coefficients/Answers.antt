@@ -17,32 +17,32 @@ use Rattle.aps.proofs.ScalingWrites.{row-is}
 use Rattle.aps.proofs.scaling_list_write.put_coefficients.Goals as goal
 
 pub overflow_add-row : goal.overflow_add-row
-overflow_add-row c = record { fits = omega (arith, c.matrix_entries.ensures, entries-le c.args.id) }
+overflow_add-row c = record { fits = omega (arith, c.matrix_entries.ensures, entries-le c.args.id.number) }
 
 pub slice_bounds-row-end : goal.slice_bounds-row-end
-slice_bounds-row-end c = omega (arith, c.matrix_entries.ensures, entries-le c.args.id)
+slice_bounds-row-end c = omega (arith, c.matrix_entries.ensures, entries-le c.args.id.number)
 
 pub returns-then-id-lt14-clause-wrote : goal.returns-then-id-lt14-clause-wrote
 unfolding coefficients
 returns-then-id-lt14-clause-wrote c =
     let a = c.args in
-    let row = row-is a.id {start = 64 * a.id} {n = 64 * a.id + c.matrix_entries.result - 64 * a.id} a.lists.now.scaling_list (omega arith) (omega (arith, c.matrix_entries.ensures)) in
-    rw (le-ltb 13 a.id (omega arith)) (wrote-▷ _ (wrote-unsent (just (pos 0)) se8 refl refl) (rw row at c.put_sums.ensures.wrote))
+    let row = row-is a.id.number {start = 64 * a.id.number} {n = 64 * a.id.number + c.matrix_entries.result - 64 * a.id.number} a.lists.now.scaling_list (omega arith) (omega (arith, c.matrix_entries.ensures)) in
+    rw (le-ltb 13 a.id.number (omega arith)) (wrote-▷ _ (wrote-unsent (just (pos 0)) se8 refl refl) (rw row at c.put_sums.ensures.wrote))
 
 pub returns-in_err-se8-clause-wrote : goal.returns-in_err-se8-clause-wrote
 unfolding coefficients
 returns-in_err-se8-clause-wrote c =
     let a = c.args in
-    let z = get_or a.lists.now.dc_coef (a.id - 14) (pos 0) in
+    let z = get_or a.lists.now.dc_coef (a.id.number - 14) (pos 0) in
     let dc-is : to_z w32 (of_z w32 z) ≡ z = search (rules, to_z-of_z') in
-    wrote-exit c.from_residual.ensures.1 (rw (lt-ltb 13 a.id (omega arith)) (wrote-▷-first _ (wrote-when (just (pos 0)) (rw dc-is at c.in_err-se8.ensures.wrote))))
+    wrote-exit c.from_residual.ensures.1 (rw (lt-ltb 13 a.id.number (omega arith)) (wrote-▷-first _ (wrote-when (just (pos 0)) (rw dc-is at c.in_err-se8.ensures.wrote))))
 
 pub returns-clause-wrote : goal.returns-clause-wrote
 unfolding coefficients
 returns-clause-wrote c =
     let a = c.args in
-    let z = get_or a.lists.now.dc_coef (a.id - 14) (pos 0) in
+    let z = get_or a.lists.now.dc_coef (a.id.number - 14) (pos 0) in
     let dc-is : to_z w32 (of_z w32 z) ≡ z = search (rules, to_z-of_z') in
-    let row = row-is a.id {start = 64 * a.id} {n = 64 * a.id + c.matrix_entries.result - 64 * a.id} a.lists.now.scaling_list (omega arith) (omega (arith, c.matrix_entries.ensures)) in
-    rw (lt-ltb 13 a.id (omega arith))
+    let row = row-is a.id.number {start = 64 * a.id.number} {n = 64 * a.id.number + c.matrix_entries.result - 64 * a.id.number} a.lists.now.scaling_list (omega arith) (omega (arith, c.matrix_entries.ensures)) in
+    rw (lt-ltb 13 a.id.number (omega arith))
     (wrote-▷ _ (wrote-when (just (pos 0)) (rw dc-is at c.in_ok-se8.ensures.wrote)) (rw (dc-is, row) at c.put_sums-2.ensures.wrote))

@@ -8,17 +8,17 @@ use Rattle.aps.proofs.ScalingWrites.{max_id_delta-word, delta-bits}
 use Rattle.aps.proofs.scaling_list_write.put_id_delta.Goals as goal
 
 pub overflow_cast-max_id_delta : goal.overflow_cast-max_id_delta
-overflow_cast-max_id_delta c = record { fits = omega (arith, c.max_id_delta.ensures, max_id_delta-word c.args.id c.requires.1) }
+overflow_cast-max_id_delta c = record { fits = omega (arith, c.max_id_delta.ensures, max_id_delta-word c.args.id.number c.args.id.below) }
 
 pub ue_to-requires : goal.ue_to-requires
-ue_to-requires c = (c.requires.0, omega (arith, c.max_id_delta.ensures, max_id_delta-word c.args.id c.requires.1))
+ue_to-requires c = (c.requires, omega (arith, c.max_id_delta.ensures, max_id_delta-word c.args.id.number c.args.id.below))
 
 pub returns-then-delta_sent : goal.returns-then-delta_sent
 returns-then-delta_sent c =
     record {
       wrote = wrote-sent no_number (sym c.delta_sent.ensures ∙ c.if-delta_sent.true) (rw c.max_id_delta.ensures at c.ue_to.ensures.wrote);
-      within = let w = rw c.max_id_delta.ensures at c.ue_to.ensures.within in omega (arith, w, delta-bits c.args.id c.requires.1);
+      within = let w = rw c.max_id_delta.ensures at c.ue_to.ensures.within in omega (arith, w, delta-bits c.args.id.number c.args.id.below);
     }
 
 pub returns-clause-wrote : goal.returns-clause-wrote
-returns-clause-wrote c = wrote-unsent no_number (ue_to (max_id_delta c.args.id)) (sym c.delta_sent.ensures ∙ c.if-delta_sent.false) c.unsent.ensures
+returns-clause-wrote c = wrote-unsent no_number (ue_to (max_id_delta c.args.id.number)) (sym c.delta_sent.ensures ∙ c.if-delta_sent.false) c.unsent.ensures

@@ -8,5 +8,5 @@ abbrev pub invariant-loop-i : goal.invariant-loop-i
 invariant-loop-i l =
     record {
       within : l.writer.at ≤ l.initial.writer.at + 17 * l.i;
-      wrote : Summing l.id (entries l.id) l.dc l.row l.initial.writer l.i l.prev l.writer;
+      wrote : Summing l.id.number (entries l.id.number) l.dc l.row l.initial.writer l.i l.prev l.writer;
     }

@@ -12,31 +12,31 @@ pub returns-in_err-put_coded-clause-wrote : goal.returns-in_err-put_coded-clause
 unfolding scaling_syntax
 returns-in_err-put_coded-clause-wrote c =
     let a = c.args in
-    let o = c.loop-id in
+    let o = c.loop-number in
     wrote-exit c.from_residual.ensures.1
-    (writing-refused (id_at a.chroma) 28 (look a.chroma a.lists.now) a.writer.now (omega arith) (look-cons a.chroma a.lists.now o.id (omega arith)) o.invariant.wrote
-    (id-sent a.chroma a.lists.now o.id (sym c.scaling_id_coded.ensures ∙ c.if-scaling_id_coded.true) c.in_err-put_coded.ensures.wrote))
+    (writing-refused (id_at a.chroma) 28 (look a.chroma a.lists.now) a.writer.now (omega arith) (look-cons a.chroma a.lists.now o.number (omega arith)) o.invariant.wrote
+    (id-sent a.chroma a.lists.now o.number (sym c.scaling_id_coded.ensures ∙ c.if-scaling_id_coded.true) c.in_err-put_coded.ensures.wrote))
 
-pub loop-id-preserved : goal.loop-id-preserved
-loop-id-preserved c =
+pub loop-number-preserved : goal.loop-number-preserved
+loop-number-preserved c =
     let a = c.args in
-    let o = c.loop-id in
+    let o = c.loop-number in
     elim c.if-scaling_id_coded.branch [
       | then-scaling_id_coded+in_ok-put_coded w ↦
           rw w.writer-is
           (record {
             within = omega arith;
             wrote =
-                writing_more (id_at a.chroma) 28 (look a.chroma a.lists.now) a.writer.now (omega arith) (look-cons a.chroma a.lists.now o.id (omega arith)) o.invariant.wrote
-                (id-sent a.chroma a.lists.now o.id (sym c.scaling_id_coded.ensures ∙ w.if-scaling_id_coded.true) w.in_ok-put_coded.ensures.wrote);
+                writing_more (id_at a.chroma) 28 (look a.chroma a.lists.now) a.writer.now (omega arith) (look-cons a.chroma a.lists.now o.number (omega arith)) o.invariant.wrote
+                (id-sent a.chroma a.lists.now o.number (sym c.scaling_id_coded.ensures ∙ w.if-scaling_id_coded.true) w.in_ok-put_coded.ensures.wrote);
           })
       | else-scaling_id_coded w ↦
           rw w.writer-is
           (record {
             within = omega arith;
             wrote =
-                writing_more (id_at a.chroma) 28 (look a.chroma a.lists.now) a.writer.now (omega arith) (look-cons a.chroma a.lists.now o.id (omega arith)) o.invariant.wrote
-                (id-unsent a.chroma a.lists.now o.id (sym c.scaling_id_coded.ensures ∙ w.if-scaling_id_coded.false));
+                writing_more (id_at a.chroma) 28 (look a.chroma a.lists.now) a.writer.now (omega arith) (look-cons a.chroma a.lists.now o.number (omega arith)) o.invariant.wrote
+                (id-unsent a.chroma a.lists.now o.number (sym c.scaling_id_coded.ensures ∙ w.if-scaling_id_coded.false));
           })
     ]
 
@@ -44,4 +44,4 @@ pub returns-clause-wrote : goal.returns-clause-wrote
 unfolding scaling_syntax
 returns-clause-wrote c =
     let a = c.args in
-    writing-done (id_at a.chroma) 28 (look a.chroma a.lists.now) a.writer.now (omega arith) (length-look a.chroma a.lists.now) c.loop-id.invariant.wrote
+    writing-done (id_at a.chroma) 28 (look a.chroma a.lists.now) a.writer.now (omega arith) (length-look a.chroma a.lists.now) c.loop-number.invariant.wrote

@@ -7,7 +7,7 @@ use native.Mathlib.Omega.{arith}
 use lib.Dec.{eqb}
 use Rattle.aps.specs.ScalingSyntax.{diag_next, diag_scan, skipped}
 use Rattle.aps.proofs.Below.{below-rule}
-use Rattle.aps.proofs.scaling_list.step_skipped.Goals as goal
+use Rattle.aps.proofs.scaling_list.ListId.step_skipped.Goals as goal
 
 abbrev same : Bool → Bool → Bool
 same a b = cond a b (not b)
@@ -25,10 +25,10 @@ rule : (i : ℕ) → i < 64 → bit i ≡ skipped 26 i
 unfolding diag_next diag_scan skipped
 rule i h = same_true (bit i) (skipped 26 i) (below-rule (λ k. same (bit k) (skipped 26 k)) 64 refl i h)
 
-pub returns-then-id-gt25 : goal.returns-then-id-gt25
+pub returns-then-self-gt25 : goal.returns-then-self-gt25
 unfolding skipped
-returns-then-id-gt25 c = rw (lt-ltb _ _ c.if-id-gt25.true) (rule (c.args.i % 64) (omega arith))
+returns-then-self-gt25 c = rw (lt-ltb _ _ c.if-self-gt25.true) (rule (c.args.i % 64) (omega arith))
 
 pub returns : goal.returns
 unfolding skipped
-returns c = rw (le-ltb _ _ c.if-id-gt25.false)
+returns c = rw (le-ltb _ _ c.if-self-gt25.false)
