@@ -67,7 +67,7 @@ pub fn aps_take_stream(
     }
 }
 
-// The set held for a kind and an id, as numbers.
+// The set held for a kind and an id, as numbers. C passes a kind's number.
 pub fn aps_lookup(table: &Table, kind: u8, id: u8, set: &mut [i64; NUMBERS]) -> u32
     ensures code { result ≡ look_code (looked_up table.now kind id) }
     ensures set { set.new ≡ set_left (looked_up table.now kind id) set.old }
@@ -87,7 +87,7 @@ fn put_flags(chroma: bool, extension: bool, flags: &mut [u8; 2])
     *flags = [u8::from(chroma), u8::from(extension)];
 }
 
-// The chroma flag and the extension flag of the set held for a kind and an id.
+// The chroma flag and the extension flag of the set held for a kind and an id. C passes a kind's number.
 pub fn aps_lookup_flags(table: &Table, kind: u8, id: u8, flags: &mut [u8; 2]) -> u32
     ensures code { result ≡ look_code (looked_up table.now kind id) }
     ensures flags { flags.new ≡ flags_left (looked_up table.now kind id) flags.old }

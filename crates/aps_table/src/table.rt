@@ -165,7 +165,7 @@ fn head_held(table: &Table, place: Place) -> Result<ApsHead, Refusal>
     Ok(own_head(table, place).ok_or(Refusal::EmptyPlace)?.value)
 }
 
-// Of the set held for a kind's number and an id its head, and no array: 2; 6.
+// Of the set held for a kind and an id its head, and no array: 2; 6. C passes a kind's number here too.
 pub fn lookup_head(table: &Table, kind: u8, id: u8) -> Result<ApsHead, Refusal>
     ensures { head_answer result ≡ head_looked (looked_up table.now kind id) }
 {
