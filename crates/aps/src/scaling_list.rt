@@ -42,6 +42,7 @@ impl ListId {
     ghost use Rattle.aps.specs.ScalingSyntax.{skipped, matrix_size, entries, max_id_delta, id_coded, delta_sent};
 
     // matrix_size.
+    #[tactic(auto, unfolding(crate::specs::ScalingSyntax::matrix_size))]
     pub(crate) fn matrix_size(self) -> usize
         ensures { result ≡ matrix_size self.number }
     {
@@ -63,6 +64,7 @@ impl ListId {
     }
 
     // max_id_delta (101).
+    #[tactic(auto, unfolding(crate::specs::ScalingSyntax::max_id_delta))]
     pub(crate) fn max_id_delta(self) -> usize
         ensures { result ≡ max_id_delta self.number }
     {
@@ -76,41 +78,24 @@ impl ListId {
     }
 
     // The syntax codes it under this chroma flag.
+    #[tactic(auto, unfolding(crate::specs::ScalingSyntax::id_coded))]
     pub(crate) fn scaling_id_coded(self, chroma: bool) -> bool
         ensures { result ≡ id_coded chroma self.number }
     {
-        if chroma {
-            return true;
-        }
-        if self.number % 3 == 2 {
-            return true;
-        }
-        self.number == 27
+        chroma || self.number % 3 == 2 || self.number == 27
     }
 
     // A step of it that is not read, at a position of the 64.
     pub(crate) fn step_skipped(self, i: usize) -> bool
         ensures { result ≡ skipped self.number (i % 64) }
     {
-        if 25 < self.number {
-            return (CORNER >> (i % 64) as u64) % 2 == 1;
-        }
-        false
+        25 < self.number && (CORNER >> (i % 64) as u64) % 2 == 1
     }
 
     // scaling_list_pred_id_delta is sent for an id that is copied or predicted, but for the first of each size.
     pub(crate) fn delta_sent(self, used: bool) -> bool
         ensures { result ≡ delta_sent self.number used }
     {
-        if !used {
-            return false;
-        }
-        if self.number == 0 {
-            return false;
-        }
-        if self.number == 2 {
-            return false;
-        }
-        self.number != 8
+        used && self.number != 0 && self.number != 2 && self.number != 8
     }
 }

@@ -29,6 +29,6 @@ pub returns-then-self-gt25 : goal.returns-then-self-gt25
 unfolding skipped
 returns-then-self-gt25 c = rw (lt-ltb _ _ c.if-self-gt25.true) (rule (c.args.i % 64) (omega arith))
 
-pub returns : goal.returns
+pub returns-else-self-gt25 : goal.returns-else-self-gt25
 unfolding skipped
-returns c = rw (le-ltb _ _ c.if-self-gt25.false)
+returns-else-self-gt25 c = rw (le-ltb _ _ c.if-self-gt25.false)
