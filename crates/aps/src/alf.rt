@@ -9,7 +9,7 @@ use crate::alf_luma::read_luma;
 use crate::reader::Reader;
 use bitstream::Refusal;
 
-// Luma filters: row r of the flat arrays is at 12 * r. In this order of fields there is no gap to copy.
+// Luma filters: row r of the flat arrays is at 12 * r. In this order of fields there is no gap to copy. Arrays beside one another here and below, as the Rust's fields are.
 #[derive(Clone, Copy)]
 pub struct VvcAlfLuma {
     pub alf_luma_num_filters_signalled_minus1: u32,

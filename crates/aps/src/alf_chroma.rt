@@ -10,7 +10,7 @@ use crate::alf_fields::{clips_sent, read_clips, read_coefficients};
 use crate::reader::Reader;
 use bitstream::Refusal;
 
-// One alternative, a row of the record's three flat arrays: its coefficients, and at once its clips. Those that are sent are read alike, whichever it is and however many there are.
+// One alternative, a row of the record's three flat arrays: its coefficients, and at once its clips. Those that are sent are read alike, whichever it is and however many there are. Rows beside one another: a struct of three slices would be made for each row and taken apart in it.
 fn read_alternative(
     reader: &mut Reader,
     clip: bool,
@@ -26,7 +26,7 @@ fn read_alternative(
     Ok(())
 }
 
-// The alternatives that the record announces, one after another: each is a row of its arrays.
+// The alternatives that the record announces, one after another: each is a row of its arrays. Cut by index: as chunks, a proof would not know what was written, as in `read_clips`.
 fn read_alternatives(reader: &mut Reader, filters: &mut VvcAlfChroma) -> Result<(), Refusal>
     requires { (filters.old.alf_chroma_num_alt_filters_minus1 ≤ 7) × (filters.old.coeff_abs ≡ replicate 48 0) × (filters.old.coeff_sign ≡ replicate 48 false) × (filters.old.clip_idx ≡ replicate 48 0) }
     ensures field { Reads (alternatives filters.old.alf_chroma_clip_flag filters.old.alf_chroma_num_alt_filters_minus1)

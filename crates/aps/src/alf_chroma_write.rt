@@ -11,7 +11,7 @@ use crate::inferred::all_inferred;
 use crate::writer::{Writer, unsent};
 use bitstream::Refusal;
 
-// One alternative, a row of the flat arrays: its coefficients and its clips.
+// One alternative, a row of the flat arrays: its coefficients and its clips. By index and no chunks: the row's number tells whether it is sent.
 fn put_alternative(writer: &mut Writer, filters: &VvcAlfChroma, row: usize) -> Result<(), Refusal>
     requires { (writer.old.at ≤ 19000) × (row < 8) }
     ensures wrote { Wrote

@@ -20,7 +20,7 @@ pub(crate) fn ceil_log2(x: u32) -> u32
     32 - u32::leading_zeros(x - 1)
 }
 
-// The first n coefficients of two arrays of zeros.
+// The first n coefficients of two arrays of zeros, which are the Rust's fields.
 pub(crate) fn read_coefficients(
     reader: &mut Reader,
     n: usize,

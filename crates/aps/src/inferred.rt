@@ -2,7 +2,7 @@
 ghost use Rattle.std.specs.Prelude.{◌≡◌, Bool, not, eqb};
 ghost use Rattle.aps.specs.Elements.{every};
 
-// No == with Default: their laws are relations, and the description asks a function of each entry.
+// No == with Default: their laws are relations, and the description asks a function of each entry. For a type of entry only: a record names its fields once, in a function of its own.
 pub(crate) trait Inferred: Copy {
     ghost inferred: { Self → Bool };
 

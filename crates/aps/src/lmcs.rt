@@ -9,6 +9,7 @@ ghost use Rattle.aps.specs.Reads.{given, filled, Reads};
 use crate::reader::Reader;
 use bitstream::Refusal;
 
+// Its arrays beside one another, as the Rust's fields are.
 #[derive(Clone, Copy)]
 pub struct VvcLmcsData {
     pub lmcs_min_bin_idx: u32,

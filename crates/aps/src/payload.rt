@@ -73,6 +73,7 @@ pub(crate) trait Coded: Copy + Default {
     const KIND: ApsKind;
 
     // The payload after its head, its id where it is judged, and what closes the RBSP. One body would ask each kind for that order, and need a contract of the payload alone.
+    // The record is lent, in which nothing is stored yet: given by value, a set was copied at each call and read slower.
     fn read(opened: Opened<'_>, d: &mut Self) -> Result<Reading<ApsHead>, Refusal>
         requires { (opened.head.kind ≡ KIND) × (d.old ≡ none) }
         ensures set { map_outcome (λ h. set h d.new) (outcome_reading result) ≡ read_rbsp opened.entry.reader.bytes.now }

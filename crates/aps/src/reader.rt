@@ -9,7 +9,7 @@ use bitstream::window::window;
 use bitstream::{Input, Refusal};
 
 // The `left` highest of `bits` are the bits from bit `at` on, zeros past the end.
-// Lent to its methods and not moved through them: a refusal leaves it where it was. The bytes and not an Input, since contracts name them at each field.
+// Lent to its methods and not moved through them: a refusal leaves it where it was. The bytes and not an Input: an Input in it would be named through at each clause and proof, for one ghost line less.
 #[derive(Clone, Copy)]
 pub(crate) struct Reader<'a> {
     bytes: &'a [u8],

@@ -1,7 +1,7 @@
 // scaling_list_data(), H.266 7.3.2.20.
 ghost use Rattle.std.specs.Prelude.{◌≡◌, ◌%◌, ◌<◌};
 
-// List id is at 64 * id of the flat array, in the order of the diagonal scan.
+// List id is at 64 * id of the flat array, in the order of the diagonal scan. Its arrays beside one another, as the Rust's fields are.
 #[derive(Clone, Copy)]
 pub struct VvcScalingListData {
     pub copy_mode_flag: [bool; 28],

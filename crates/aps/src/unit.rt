@@ -10,7 +10,7 @@ use crate::nal_header::{NAL_TYPE_PREFIX_APS, NAL_TYPE_SUFFIX_APS, parse_nal_head
 use bitstream::Refusal;
 use bitstream::nal::ebsp_to_rbsp;
 
-// A prefix or a suffix APS.
+// A prefix or a suffix APS. The type is a number: C passes it, the Rust's header has it so, and 2 answers every other.
 pub fn is_aps(unit_type: u8) -> bool
     ensures { result ≡ is_aps unit_type }
 {

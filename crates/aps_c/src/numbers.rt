@@ -59,7 +59,7 @@ struct Target<'a> {
 }
 
 impl Target<'_> {
-    // As many numbers as src has fields.
+    // As many numbers as src has fields. By index: zipped with iter_mut, a proof would not know what was written.
     fn put<T: Number>(&mut self, src: &[T])
         requires { self.old.at + length src.now ≤ 3122 }
         ensures { Puts (map T.number src.now) self.old self.new × (self.new.at ≡ self.old.at + length src.now) }

@@ -246,7 +246,7 @@ fn fit<T: Field>(src: &[i64; NUMBERS], from: usize, n: usize) -> bool
         .all(|&x| T::LOW <= x && x <= T::HIGH)
 }
 
-// The fields can hold the numbers. All are looked at before a field is made: one pass, each record an `Option`, was tried and wrote sets 18% slower.
+// The fields can hold the numbers. All are looked at before a field is made: one pass, each record an `Option`, was tried and wrote sets 18% slower. By index and no cursor: `&&` would leave a cursor where a test fails.
 #[tactic(auto, unfolding(crate::specs::SetOf::fits_luma))]
 fn fits_luma(src: &[i64; NUMBERS], from: usize) -> bool
     requires { from + 927 ≤ 3122 }

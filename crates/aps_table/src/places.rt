@@ -40,7 +40,7 @@ pub(crate) struct Place {
 }
 
 impl Place {
-    // The place of a kind's number and an id; none: they name no place.
+    // The place of a kind's number, as C passes it, and an id; none: they name no place.
     pub(crate) fn new(kind: u8, id: u8) -> Option<Self>
         ensures none { IfNone result (named kind id ≡ false) }
         ensures some { IfSome result (λ place. (number_of place.kind ≡ kind) × (place.id ≡ id)) }

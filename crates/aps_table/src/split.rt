@@ -4,7 +4,7 @@ ghost use Rattle.std.specs.Prelude.{◌≡◌, ◌≤◌, length};
 use crate::unit_end::unit_end;
 use bitstream::{Input, Refusal};
 
-// A place in a stream. The bytes and not an Input, since contracts name them at each step; an iterator of units would give a Result to be told apart at each.
+// A place in a stream. The bytes and not an Input, which would be named through at each clause and proof; an iterator of units would give a Result to be told apart at each.
 #[derive(Clone, Copy)]
 pub(crate) struct Cursor<'a> {
     pub(crate) bytes: &'a [u8],

@@ -11,7 +11,7 @@ use crate::place::{Place, bits};
 use crate::short_codes::short_code;
 use crate::window::{Code, code_in, window_alone};
 
-// A position in a byte slice, as a bit.
+// A position in a byte slice, as a bit. The bytes stand beside it in each call: the project fixed a cursor by value, and C passes bytes and bit.
 #[derive(Clone, Copy, Debug, PartialEq, Eq)]
 pub struct BitReader {
     pub bit_pos: usize,

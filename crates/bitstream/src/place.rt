@@ -8,7 +8,7 @@ ghost use Rattle.bitstream.specs.Reading.{started};
 use crate::window::window;
 use crate::{Input, LAST_START, Refusal};
 
-// Bit `bit` of an input; neither is over its limit. The bytes and not an Input, since contracts name them at each call.
+// Bit `bit` of an input; neither is over its limit. The bytes and not an Input: an Input in it would be named through at each clause and proof, for one ghost line less.
 #[derive(Clone, Copy)]
 pub(crate) struct Place<'a> {
     pub(crate) bytes: &'a [u8],

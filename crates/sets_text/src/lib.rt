@@ -25,10 +25,10 @@ fn flag(f: bool) {
 }
 
 // Kind, id, chroma flag and extension flag.
-fn print_set(kind: ApsKind, id: u8, head: ApsHead) {
-    number(u8::from(kind).into());
+fn print_set(head: ApsHead) {
+    number(u8::from(head.kind).into());
     text(b" ");
-    number(id.into());
+    number(head.aps_adaptation_parameter_set_id.into());
     flag(head.aps_chroma_present_flag);
     flag(head.aps_extension_flag);
     text(b"\n");
@@ -37,7 +37,7 @@ fn print_set(kind: ApsKind, id: u8, head: ApsHead) {
 fn print_kind(table: &Table, kind: ApsKind) {
     for id in 0..=kind.max_id() {
         if let Ok(head) = lookup_head(table, kind.into(), id) {
-            print_set(kind, id, head);
+            print_set(head);
         }
     }
 }
