@@ -7,8 +7,8 @@ ghost use Rattle.aps.specs.Writes.{Wrote};
 use crate::alf::{VvcAlfCcFilters, VvcAlfChroma};
 use crate::alf_fields::clips_sent;
 use crate::alf_write::{put_clips, put_coefficients};
-use crate::inferred::all_inferred;
-use crate::writer::{Writer, unsent};
+use crate::inferred::{all_inferred, unsent};
+use crate::writer::Writer;
 use bitstream::Refusal;
 
 // One alternative, a row of the flat arrays: its coefficients and its clips. By index and no chunks: the row's number tells whether it is sent.

@@ -9,8 +9,8 @@ ghost use Rattle.aps.specs.Writes.{Wrote};
 use crate::alf::{VvcAlfData, VvcAlfLuma};
 use crate::alf_chroma_write::{put_cc, put_chroma};
 use crate::alf_fields::{ceil_log2, clips_sent};
-use crate::inferred::all_inferred;
-use crate::writer::{Writer, unsent};
+use crate::inferred::{all_inferred, unsent};
+use crate::writer::Writer;
 use bitstream::Refusal;
 
 // The first n coefficients of two arrays; the rest are 0.

@@ -1,6 +1,9 @@
 // Values of which nothing is sent: what is inferred is 0 or false.
 ghost use Rattle.std.specs.Prelude.{◌≡◌, Bool, not, eqb};
 ghost use Rattle.aps.specs.Elements.{every};
+ghost use Rattle.aps.specs.Writes.{unsent};
+
+use bitstream::Refusal;
 
 // No == with Default: their laws are relations, and the description asks a function of each entry. For a type of entry only: a record names its fields once, in a function of its own.
 pub(crate) trait Inferred: Copy {
@@ -43,4 +46,15 @@ pub(crate) fn all_inferred<T: Inferred>(values: &[T]) -> bool
         all &= v.is_inferred();
     }
     all
+}
+
+// Nothing is sent: refused with 2 where the value is not the inferred one.
+pub(crate) fn unsent(inferred: bool) -> Result<(), Refusal>
+    ensures { result ≡ unsent inferred }
+{
+    if inferred {
+        Ok(())
+    } else {
+        Err(Refusal::InvalidData)
+    }
 }

@@ -5,8 +5,9 @@ ghost use Rattle.aps.specs.Elements.{signed, no_signed};
 ghost use Rattle.aps.specs.LmcsSyntax.{coded_from, lmcs_head, lmcs_codewords, from_lmcs, lmcs};
 ghost use Rattle.aps.specs.Writes.{Wrote};
 
+use crate::inferred::unsent;
 use crate::lmcs::{Bins, VvcLmcsData};
-use crate::writer::{Writer, unsent};
+use crate::writer::Writer;
 use bitstream::Refusal;
 
 // Bin i is between min and 15 - max.

@@ -3,8 +3,9 @@ ghost use Rattle.std.specs.Prelude.{◌≡◌, true, cond, ◌+◌, ◌-◌, ◌
 ghost use Rattle.aps.specs.ScalingSyntax.{entries, step_at, sums, dc_at, delta_at, coefficients, entry_syntax, id_at, scaling_syntax, looked, looked_at, look};
 ghost use Rattle.aps.specs.Writes.{Wrote};
 
+use crate::inferred::unsent;
 use crate::scaling_list::{ListId, VvcScalingListData};
-use crate::writer::{Writer, unsent};
+use crate::writer::Writer;
 use bitstream::Refusal;
 
 // The sum v at position i, after prev: its difference, or nothing where it is repeated.

@@ -44,8 +44,7 @@ pub(crate) fn put_rbsp<P: Coded>(
     d: &P,
 ) -> Result<(), Refusal>
     requires { (writer.old.at ≡ 0) × (writer.old.buffer ≡ replicate 4096 0) }
-    ensures due { (a : VvcAps) → from_aps a ≡ (number_of P.KIND, (id, (chroma, (P.sent chroma d.now, extension)))) → closed result writer.new ≡ bytes_due a }
-    ensures within { writer.new.at ≤ 32768 }
+    ensures { (a : VvcAps) → from_aps a ≡ (number_of P.KIND, (id, (chroma, (P.sent chroma d.now, extension)))) → closed result writer.new ≡ bytes_due a }
 {
     if extension {
         return Err(Refusal::Unsupported);
@@ -57,8 +56,7 @@ pub(crate) fn put_rbsp<P: Coded>(
 // The RBSP of a set.
 fn write_rbsp(writer: &mut Writer, set: &VvcAps) -> Result<(), Refusal>
     requires { (writer.old.at ≡ 0) × (writer.old.buffer ≡ replicate 4096 0) }
-    ensures due { closed result writer.new ≡ bytes_due set.now }
-    ensures within { writer.new.at ≤ 32768 }
+    ensures { closed result writer.new ≡ bytes_due set.now }
 {
     let id = set.aps_adaptation_parameter_set_id;
     let chroma = set.aps_chroma_present_flag;

@@ -5,22 +5,25 @@ ghost use Rattle.bitstream.specs.Writing.{write_trailing_at};
 ghost use Rattle.aps.specs.Codec.{u};
 ghost use Rattle.aps.specs.Elements.{flag, ue_to, se_in, signed};
 ghost use Rattle.aps.specs.AlfSyntax.{coefficient};
-ghost use Rattle.aps.specs.Writes.{Wrote, written, unsent};
 
+use crate::inferred::unsent;
 use bitstream::Refusal;
 use bitstream::bit_writer::{write_bits, write_rbsp_trailing_bits, write_se, write_ue};
 
-// The bits of a set on their way: the first `at` bits of the buffer are written. Each part says what room it asks and what it takes; these differ, so no one invariant holds them. A fixed buffer: no heap is used.
+// The bits of a set on their way: the first `at` bits of the buffer are written. Each part says what room it asks and what it takes, since these differ. A fixed buffer: no heap is used.
 #[derive(Drop)]
 pub(crate) struct Writer {
     pub(crate) buffer: [u8; 4096],
     pub(crate) at: usize,
+    ghost within: { at ≤ 32768 },
 }
 
 impl Writer {
+    ghost use Rattle.aps.specs.Writes.{Wrote, written};
+
     // Nothing is written.
     pub(crate) fn new() -> Self
-        ensures { result ≡ record { buffer = replicate 4096 0; at = 0 } }
+        ensures { (result.buffer ≡ replicate 4096 0) × (result.at ≡ 0) }
     {
         Writer {
             buffer: [0; 4096],
@@ -124,20 +127,8 @@ impl Writer {
 
     // The whole bytes that are written.
     pub(crate) fn bytes(&self) -> &[u8]
-        requires { self.now.at ≤ 32768 }
         ensures { result.now ≡ take (self.now.at / 8) self.now.buffer }
     {
         &self.buffer[..self.at / 8]
-    }
-}
-
-// Nothing is sent: refused with 2 where the value is not the inferred one.
-pub(crate) fn unsent(inferred: bool) -> Result<(), Refusal>
-    ensures { result ≡ unsent inferred }
-{
-    if inferred {
-        Ok(())
-    } else {
-        Err(Refusal::InvalidData)
     }
 }

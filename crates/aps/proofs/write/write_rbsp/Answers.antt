@@ -2,14 +2,14 @@
 use Rattle.aps.specs.ApsSyntax.{from_aps}
 use Rattle.aps.proofs.write.write_rbsp.Goals as goal
 
-pub returns-in-Alf-clause-due : goal.returns-in-Alf-clause-due
+pub returns-in-Alf : goal.returns-in-Alf
 unfolding from_aps
-returns-in-Alf-clause-due c = c.put_rbsp.ensures.due c.args.set.now (rw c.in-Alf.is)
+returns-in-Alf c = c.put_rbsp.ensures c.args.set.now (rw c.in-Alf.is)
 
-pub returns-in-Lmcs-clause-due : goal.returns-in-Lmcs-clause-due
+pub returns-in-Lmcs : goal.returns-in-Lmcs
 unfolding from_aps
-returns-in-Lmcs-clause-due c = c.put_rbsp-in-Lmcs.ensures.due c.args.set.now (rw c.in-Lmcs.is)
+returns-in-Lmcs c = c.put_rbsp-in-Lmcs.ensures c.args.set.now (rw c.in-Lmcs.is)
 
-pub returns-in-Scaling-clause-due : goal.returns-in-Scaling-clause-due
+pub returns-in-Scaling : goal.returns-in-Scaling
 unfolding from_aps
-returns-in-Scaling-clause-due c = c.put_rbsp-in-Scaling.ensures.due c.args.set.now (rw c.in-Scaling.is)
+returns-in-Scaling c = c.put_rbsp-in-Scaling.ensures c.args.set.now (rw c.in-Scaling.is)

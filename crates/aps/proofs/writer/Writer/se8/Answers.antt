@@ -15,6 +15,14 @@ returns-then-v-ltminus128-clause-wrote c =
       | then-v-ltminus128-via-else-v-ltminus128+then-v-gt127 w ↦ wrote-not (se8-high c.args.v (rw (to_z-of_z c.ranges.v) at w.if-v-gt127.true))
     ]
 
+pub invariant_of-self-2 : goal.invariant_of-self-2
+invariant_of-self-2 c =
+    let a = c.args in
+    let low = rw (to_z-of_z c.ranges.v) at c.if-v-ltminus128.false in
+    let high = rw (to_z-of_z c.ranges.v) at c.if-v-gt127.false in
+    let e = (rw (to_z-of_z c.ranges.v) at c.in_ok-end.ensures.answer) ∙ se8-wrote a.v low high a.self.now.buffer a.self.now.at (omega arith) (omega arith) in
+    record { within = omega (arith, field-end e, se8-bits a.v low high) }
+
 pub returns : goal.returns
 returns c =
     let a = c.args in

@@ -9,6 +9,11 @@ use Rattle.aps.proofs.writer.Writer.u.Goals as goal
 pub returns-then-n-v-clause-wrote : goal.returns-then-n-v-clause-wrote
 returns-then-n-v-clause-wrote c = wrote-not (u-wide c.args.n c.args.v (omega (arith, limit c.args.n c.requires.1)))
 
+pub invariant_of-self-2 : goal.invariant_of-self-2
+invariant_of-self-2 c =
+    let a = c.args in
+    record { within = omega (arith, field-end (c.in_ok-end.ensures.answer ∙ u-wrote a.n a.v a.self.now.buffer a.self.now.at (omega arith) c.requires.1 (omega arith)), u-bits a.n a.v) }
+
 pub returns : goal.returns
 returns c =
     let a = c.args in

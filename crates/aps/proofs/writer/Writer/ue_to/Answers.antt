@@ -3,12 +3,22 @@ use mathlib.Core.Path.{sym, ◌∙◌}
 use Prim.Native.Nat.{◌≤◌}
 use native.Mathlib.Omega.{arith}
 use Rattle.bitstream.proofs.CodeLaws.{value-refused}
+use Rattle.bitstream.proofs.WriteLaws.{length-ue-most}
+use Rattle.aps.specs.Codec.{ue, judged}
+use Rattle.aps.specs.Elements.{ue_to}
 use Rattle.aps.proofs.WriterLaws.{wrote-not, wrote-taken}
 use Rattle.aps.proofs.FieldWrites.{field-end, ue_to-fits, ue_to-wide, ue_to-bits, ue_to-wrote}
 use Rattle.aps.proofs.writer.Writer.ue_to.Goals as goal
 
 pub returns-then-most-v-clause-wrote : goal.returns-then-most-v-clause-wrote
 returns-then-most-v-clause-wrote c = wrote-not (ue_to-wide c.args.most c.args.v (omega arith))
+
+pub invariant_of-self-2 : goal.invariant_of-self-2
+unfolding ue_to judged ue
+invariant_of-self-2 c =
+    let a = c.args in
+    let e = c.in_ok-end.ensures.answer ∙ ue_to-wrote a.self.now.buffer a.self.now.at a.most a.v (omega arith) (omega arith) (omega arith) in
+    record { within = omega (arith, field-end e, length-ue-most a.v (omega arith)) }
 
 pub returns : goal.returns
 returns c =
