@@ -98,21 +98,18 @@ extended h x =
       aps_extension_flag = x;
     }
 
-abbrev pub BareAs : ApsKind → VvcAps → Type 0
-BareAs ApsKind.Alf a = (a.lmcs ≡ zero_lmcs) × (a.scaling ≡ zero_scaling)
-BareAs ApsKind.Lmcs a = (a.alf ≡ zero_alf) × (a.scaling ≡ zero_scaling)
-BareAs ApsKind.Scaling a = (a.alf ≡ zero_alf) × (a.lmcs ≡ zero_lmcs)
-
--- the arrays of the kinds that a set is not of are 0
-abbrev pub Bare : VvcAps → Type 0
-Bare a = BareAs a.kind a
+-- the arrays of all kinds but this are 0
+abbrev pub Bare : ApsKind → VvcAps → Type 0
+Bare ApsKind.Alf a = (a.lmcs ≡ zero_lmcs) × (a.scaling ≡ zero_scaling)
+Bare ApsKind.Lmcs a = (a.alf ≡ zero_alf) × (a.scaling ≡ zero_scaling)
+Bare ApsKind.Scaling a = (a.alf ≡ zero_alf) × (a.lmcs ≡ zero_lmcs)
 
 -- past the payload of a kind: the head of the set that o is the answer of, or why there is none
 pub record Passes (kind : ApsKind) (r : Result (Reading ApsHead) Refusal) (o : Outcome VvcAps) : Type 0 where
   pub set : ApsHead → VvcAps
   pub read : map_outcome set (outcome_reading r) ≡ o
   pub head : (h : ApsHead) → head_of (set h) ≡ h
-  pub bare : (h : ApsHead) → h.kind ≡ kind → Bare (set h)
+  pub bare : (h : ApsHead) → Bare kind (set h)
 
 -- what is read of the bytes that were opened, or why they were not
 abbrev pub Opens : List ℕ → Result Opened Refusal → Type 0

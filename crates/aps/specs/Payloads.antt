@@ -10,7 +10,7 @@ use Rattle.aps.specs.ApsSyntax.{ApsData, aps_syntax, aps, from_aps, of_alf, of_l
 use Rattle.aps.specs.Rbsp.{rbsp_bits, rbsp_bytes}
 use Rattle.aps.specs.ScalingSyntax.{look}
 use Rattle.aps.specs.Writing.{rbsp_due, bytes_due, alf_set, lmcs_set, scaling_set, write_aps}
-use Rattle.aps.specs.Inner.{assembled, Bare, BareAs}
+use Rattle.aps.specs.Inner.{assembled, Bare}
 use Rattle.aps.specs.declared.alf.VvcAlfData.{VvcAlfData}
 use Rattle.aps.specs.declared.lmcs.VvcLmcsData.{VvcLmcsData}
 use Rattle.aps.specs.declared.scaling_list.VvcScalingListData.{VvcScalingListData}
@@ -19,39 +19,30 @@ use Rattle.aps.specs.declared.aps.ApsKind.{ApsKind}
 use Rattle.aps.specs.declared.aps.VvcAps.{VvcAps}
 
 -- the arrays of the other kinds are 0
-pub bare_alf : (h : ApsHead) (d : VvcAlfData) → h.kind ≡ ApsKind.Alf → Bare (assembled h d zero_lmcs zero_scaling)
-bare_alf h d e = rw e (refl, refl)
+pub bare_alf : (k : ApsKind) (h : ApsHead) (d : VvcAlfData) → k ≡ ApsKind.Alf → Bare k (assembled h d zero_lmcs zero_scaling)
+bare_alf k h d e = rw e (refl, refl)
 
-pub bare_lmcs : (h : ApsHead) (d : VvcLmcsData) → h.kind ≡ ApsKind.Lmcs → Bare (assembled h zero_alf d zero_scaling)
-bare_lmcs h d e = rw e (refl, refl)
+pub bare_lmcs : (k : ApsKind) (h : ApsHead) (d : VvcLmcsData) → k ≡ ApsKind.Lmcs → Bare k (assembled h zero_alf d zero_scaling)
+bare_lmcs k h d e = rw e (refl, refl)
 
-pub bare_scaling : (h : ApsHead) (d : VvcScalingListData) → h.kind ≡ ApsKind.Scaling → Bare (assembled h zero_alf zero_lmcs d)
-bare_scaling h d e = rw e (refl, refl)
+pub bare_scaling : (k : ApsKind) (h : ApsHead) (d : VvcScalingListData) → k ≡ ApsKind.Scaling → Bare k (assembled h zero_alf zero_lmcs d)
+bare_scaling k h d e = rw e (refl, refl)
 
 -- of a set of another kind those of this one are
-pub other_alf : (a : VvcAps) → Bare a → (a.kind ≡ ApsKind.Alf → ⊥) → a.alf ≡ zero_alf
-other_alf a b n = go a.kind b n
-  where
-    go : (k : ApsKind) → BareAs k a → (k ≡ ApsKind.Alf → ⊥) → a.alf ≡ zero_alf
-    go ApsKind.Alf b n = absurd (n refl)
-    go ApsKind.Lmcs b n = b.0
-    go ApsKind.Scaling b n = b.0
+pub other_alf : (k : ApsKind) (a : VvcAps) → Bare k a → (k ≡ ApsKind.Alf → ⊥) → a.alf ≡ zero_alf
+other_alf ApsKind.Alf a b n = absurd (n refl)
+other_alf ApsKind.Lmcs a b n = b.0
+other_alf ApsKind.Scaling a b n = b.0
 
-pub other_lmcs : (a : VvcAps) → Bare a → (a.kind ≡ ApsKind.Lmcs → ⊥) → a.lmcs ≡ zero_lmcs
-other_lmcs a b n = go a.kind b n
-  where
-    go : (k : ApsKind) → BareAs k a → (k ≡ ApsKind.Lmcs → ⊥) → a.lmcs ≡ zero_lmcs
-    go ApsKind.Alf b n = b.0
-    go ApsKind.Lmcs b n = absurd (n refl)
-    go ApsKind.Scaling b n = b.1
+pub other_lmcs : (k : ApsKind) (a : VvcAps) → Bare k a → (k ≡ ApsKind.Lmcs → ⊥) → a.lmcs ≡ zero_lmcs
+other_lmcs ApsKind.Alf a b n = b.0
+other_lmcs ApsKind.Lmcs a b n = absurd (n refl)
+other_lmcs ApsKind.Scaling a b n = b.1
 
-pub other_scaling : (a : VvcAps) → Bare a → (a.kind ≡ ApsKind.Scaling → ⊥) → a.scaling ≡ zero_scaling
-other_scaling a b n = go a.kind b n
-  where
-    go : (k : ApsKind) → BareAs k a → (k ≡ ApsKind.Scaling → ⊥) → a.scaling ≡ zero_scaling
-    go ApsKind.Alf b n = b.1
-    go ApsKind.Lmcs b n = b.1
-    go ApsKind.Scaling b n = absurd (n refl)
+pub other_scaling : (k : ApsKind) (a : VvcAps) → Bare k a → (k ≡ ApsKind.Scaling → ⊥) → a.scaling ≡ zero_scaling
+other_scaling ApsKind.Alf a b n = b.1
+other_scaling ApsKind.Lmcs a b n = b.1
+other_scaling ApsKind.Scaling a b n = absurd (n refl)
 
 -- what is sent of a set with the arrays of one kind alone
 pub alone_alf : (id : ℕ) (chroma extension : Bool) (d : VvcAlfData) → from_aps (alf_set id chroma extension d) ≡ (0, (id, (chroma, (of_alf d, extension))))

@@ -1,5 +1,5 @@
 // The payload of a set of one kind: how it is read and written, and the set that it makes.
-ghost use Rattle.std.specs.Prelude.{◌≡◌, Bool, List, ℕ, ◌+◌, ◌≤◌, IfOk};
+ghost use Rattle.std.specs.Prelude.{◌≡◌, Bool, List, ℕ, ◌+◌, ◌≤◌};
 ghost use Rattle.aps.specs.ApsSyntax.{payload, number_of, from_aps};
 ghost use Rattle.aps.specs.ApsSyntax as Syntax;
 ghost use Rattle.aps.specs.Kinds.{largest_id};
@@ -76,8 +76,7 @@ pub(crate) trait Coded: Copy + Default {
     // The record is lent, in which nothing is stored yet: given by value, a set was copied at each call and read slower.
     fn read(opened: Opened<'_>, d: &mut Self) -> Result<Reading<ApsHead>, Refusal>
         requires { (opened.head.kind ≡ KIND) × (d.old ≡ none) }
-        ensures set { map_outcome (λ h. set h d.new) (outcome_reading result) ≡ read_rbsp opened.entry.reader.bytes.now }
-        ensures kind { IfOk result (λ r. r.value.kind ≡ opened.entry.head.kind) };
+        ensures { map_outcome (λ h. set h d.new) (outcome_reading result) ≡ read_rbsp opened.entry.reader.bytes.now };
 
     // The payload of a set with an id that its kind has.
     fn write(&self, writer: &mut Writer, chroma: bool) -> Result<(), Refusal>
@@ -91,9 +90,9 @@ pub(crate) trait Coded: Copy + Default {
 
     ghost part_is: { (h : ApsHead) (p : Self) → part (set h p) ≡ p };
 
-    ghost bare: { (h : ApsHead) (p : Self) → h.kind ≡ KIND → Bare (set h p) };
+    ghost bare: { (kind : ApsKind) (h : ApsHead) (p : Self) → kind ≡ KIND → Bare kind (set h p) };
 
-    ghost other: { (a : VvcAps) → Bare a → (a.kind ≡ KIND → ⊥) → part a ≡ none };
+    ghost other: { (kind : ApsKind) (a : VvcAps) → Bare kind a → (kind ≡ KIND → ⊥) → part a ≡ none };
 
     ghost sent_alone: { (id : ℕ) (chroma extension : Bool) (p : Self) → from_aps (alone id chroma extension p) ≡ (number_of KIND, (id, (chroma, (sent chroma p, extension)))) };
 
@@ -157,8 +156,7 @@ pub struct ApsOf<P> {
 // Reads past a payload, which is not kept.
 fn pass_one<P: Coded>(opened: Opened<'_>) -> Result<Reading<ApsHead>, Refusal>
     requires { opened.head.kind ≡ P.KIND }
-    ensures past { Passes opened.entry.head.kind result (read_rbsp opened.entry.reader.bytes.now) }
-    ensures kind { IfOk result (λ r. r.value.kind ≡ opened.entry.head.kind) }
+    ensures { Passes opened.entry.head.kind result (read_rbsp opened.entry.reader.bytes.now) }
 {
     let mut d = P::default();
     P::read(opened, &mut d)
@@ -166,8 +164,7 @@ fn pass_one<P: Coded>(opened: Opened<'_>) -> Result<Reading<ApsHead>, Refusal>
 
 // Reads past the payload of any kind.
 pub(crate) fn pass_payload(opened: Opened<'_>) -> Result<Reading<ApsHead>, Refusal>
-    ensures past { Passes opened.entry.head.kind result (read_rbsp opened.entry.reader.bytes.now) }
-    ensures kind { IfOk result (λ r. r.value.kind ≡ opened.entry.head.kind) }
+    ensures { Passes opened.entry.head.kind result (read_rbsp opened.entry.reader.bytes.now) }
 {
     match opened.head.kind {
         ApsKind::Alf => pass_one::<VvcAlfData>(opened),

@@ -1,18 +1,14 @@
 -- What a place's bytes, read as an RBSP, come to in the list.
 use mathlib.Core.Path.{◌≡◌, sym, ap, ◌∙◌}
-use mathlib.Core.Bool.{true, false, ◌&&◌}
+use mathlib.Core.Bool.{true, false}
 use mathlib.Core.List.{List}
 use mathlib.Core.Option.{Option, some}
 use Prim.Native.Nat.{ℕ, ◌/◌}
 use native.Mathlib.Omega.{arith}
-use lib.Dec.{eqb}
 use lib.ListN.{length, take}
 use Rattle.bitstream.specs.Outcome.{value, refused}
 use Rattle.bitstream.proofs.KeepLaws.{Bytes}
 use Rattle.aps.specs.Rbsp.{read_rbsp, parse_aps_rbsp}
-use Rattle.aps.specs.ApsSyntax.{number_of}
-use Rattle.aps.specs.Reading.{head_of}
-use Rattle.aps.specs.declared.aps.ApsHead.{ApsHead}
 use Rattle.aps.specs.declared.aps.VvcAps.{VvcAps}
 use Rattle.aps.proofs.RbspLaws.{rbsp-sound, read-write}
 use Rattle.aps.proofs.RbspSteps.{in-limits}
@@ -28,11 +24,6 @@ module _ (t s : List ℕ) (k i : ℕ) (n : Names k i) (b : s ≡ place_bytes t k
 
   pub held-as : held t k i ≡ under k i (parse_aps_rbsp s)
   held-as = held-read t s k i b ∙ ap (under k i) (sym as-read)
-
--- a head tells whether its set is of a kind and an id
-pub own-head : (k i : ℕ) {h : ApsHead} (a : VvcAps) → h ≡ head_of a
-    → (eqb (number_of h.kind) k && eqb h.aps_adaptation_parameter_set_id i) ≡ (eqb (number_of a.kind) k && eqb a.aps_adaptation_parameter_set_id i)
-own-head k i a e = ap (λ h. eqb (number_of h.kind) k && eqb h.aps_adaptation_parameter_set_id i) e
 
 -- a set with extension flag 1
 pub held-extended : (l : List ℕ) (p : ℕ) (a : VvcAps) {h : Option VvcAps} → h ≡ some a → a.aps_extension_flag ≡ true → refused 3 ≡ joined (value l p) (entry h)

@@ -18,6 +18,9 @@ use Rattle.aps.specs.ApsSyntax.{number_of}
 use Rattle.aps.specs.Rbsp.{read_rbsp}
 use Rattle.aps.specs.declared.aps.VvcAps.{VvcAps}
 use Rattle.aps.specs.declared.aps.ApsKind.{ApsKind}
+use Rattle.aps.specs.contracts.aps.ApsKind.{the_type}
+use denote.Enum.Bare.{sameb}
+use Rattle.std.proofs.Common.{rules}
 use Rattle.aps_table.specs.Places.{Names, named, ids, names, place_at, table_bytes, place_bytes, kind_in, id_in, under, held, missing, found_in, lookup_in, looked_up}
 
 -- ---- where they stand
@@ -102,16 +105,20 @@ held-read table bytes k i e = rw e
 
 -- ---- the set that a place holds
 
-module _ (k i : ℕ) (a : VvcAps) {q : ℕ} {o : Outcome VvcAps} (e : o ≡ value a q) {b : Bool} (f : b ≡ (eqb (number_of a.kind) k && eqb a.aps_adaptation_parameter_set_id i)) where
+-- kinds are told apart by their numbers
+same-kind : (x y : ApsKind) → sameb the_type x y ≡ eqb (number_of x) (number_of y)
+same-kind x y = search rules
+
+module _ (kind : ApsKind) (i : ℕ) (a : VvcAps) {q : ℕ} {o : Outcome VvcAps} (e : o ≡ value a q) {b : Bool} (f : b ≡ (sameb the_type a.kind kind && eqb a.aps_adaptation_parameter_set_id i)) where
   -- a place with a set of another kind or id is empty
-  pub under-other : b ≡ false → under k i o ≡ none
+  pub under-other : b ≡ false → under (number_of kind) i o ≡ none
   unfolding kind_in id_in
-  under-other h = ap (under k i) e ∙ rw (← f, h)
+  under-other h = ap (under (number_of kind) i) e ∙ rw (← same-kind a.kind kind, ← f, h)
 
   -- a set of its own is held
-  pub under-own : b ≡ true → under k i o ≡ some a
+  pub under-own : b ≡ true → under (number_of kind) i o ≡ some a
   unfolding kind_in id_in
-  under-own h = ap (under k i) e ∙ rw (← f, h)
+  under-own h = ap (under (number_of kind) i) e ∙ rw (← same-kind a.kind kind, ← f, h)
 
 module _ (table : List ℕ) (k i : ℕ) where
   -- with a kind and an id that name no place nothing is looked up

@@ -1,5 +1,5 @@
 // The 20 places of the table, and the bytes of each in the memory that the caller lends.
-ghost use Rattle.std.specs.Prelude.{◌≡◌, ◌+◌, ◌≤◌, ◌<◌, ◌&&◌, false, ◌∷◌, drop, eqb, length, IfSome, IfNone};
+ghost use Rattle.std.specs.Prelude.{◌≡◌, ◌+◌, ◌≤◌, ◌<◌, false, ◌∷◌, drop, length, IfSome, IfNone};
 ghost use Rattle.std.proofs.lemmas.List.Edits.{sets};
 ghost use Rattle.aps.specs.Kinds.{largest_id, most_bytes};
 ghost use Rattle.aps.specs.ApsSyntax.{number_of};
@@ -77,13 +77,6 @@ impl Place {
             kind: ApsKind::Scaling,
             id,
         }
-    }
-
-    // A set of this kind and id is the place's own.
-    pub(crate) fn is_of(self, kind: ApsKind, id: u8) -> bool
-        ensures { result ≡ (eqb (number_of kind) (number_of self.kind) && eqb id self.id) }
-    {
-        kind == self.kind && id == self.id
     }
 
     // The most bytes that a set of its kind takes.

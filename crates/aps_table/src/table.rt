@@ -131,7 +131,7 @@ fn set_held(table: &Table, place: Place) -> Result<VvcAps, Refusal>
 {
     if let Ok(reading) = parse_aps_rbsp(place.bytes(table)) {
         let set = reading.value;
-        if place.is_of(set.kind, set.aps_adaptation_parameter_set_id) {
+        if (set.kind, set.aps_adaptation_parameter_set_id) == (place.kind, place.id) {
             return Ok(set);
         }
     }
@@ -151,7 +151,7 @@ pub(crate) fn own_head(table: &Table, place: Place) -> Option<Reading<ApsHead>>
 {
     if let Ok(reading) = parse_aps_head(place.bytes(table)) {
         let head = reading.value;
-        if place.is_of(head.kind, head.aps_adaptation_parameter_set_id) {
+        if (head.kind, head.aps_adaptation_parameter_set_id) == (place.kind, place.id) {
             return Some(reading);
         }
     }

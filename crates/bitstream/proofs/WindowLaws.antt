@@ -1,29 +1,32 @@
 -- Laws of windows, stated once over the widths: how one starts, drops bits, and gives a field or a code.
 use Prim.Native.Nat.{ℕ, suc, ◌+◌, ◌-◌, ◌*◌, ◌/◌, ◌%◌, ◌^◌, ◌≤◌, ◌<◌}
 use Rattle.std.specs.Prelude.{Option, Some, None}
-use mathlib.Core.Path.{◌≡◌, sym, ap, ◌∙◌}
+use mathlib.Core.Path.{◌≡◌, refl, sym, ap, ◌∙◌}
 use mathlib.Core.List.{List}
 use native.Mathlib.Nat.{lt_of_lt_of_le, mul_assoc, mod-lt, div-eq_of_lt, pow-suc}
 use native.Mathlib.Decide.{dec_lt}
 use native.Mathlib.Omega.{arith}
 use borrow.Author.Tests.{lt-ltb, le-ltb, eq-eqb, ne_eqb}
-use lib.ListN.{length, get_or}
+use lib.ListN.{length, get_or, take, drop}
+use lib.Seq.{get_or-take, get_or-drop}
+use Rattle.std.specs.Int.{w64, from_be_bytes}
 use lib.Count.{count_leading_zeros, leading_length, leading_unique}
 use lib.Pow.{shl_lt, shl-shr, shr-shr, pow_pos, pow-add, pow_mono, high, low, field, split}
 use Rattle.bitstream.specs.Outcome.{value}
 use Rattle.bitstream.specs.Bits.{bit_at, field_at}
 use Rattle.bitstream.specs.Fields.{read_ue, ue_asked}
 use Rattle.bitstream.specs.Windows.{window_at, IsWindow, code_of, code_in, short_code, ShortCodes, code_by}
-use Rattle.bitstream.proofs.FieldLaws.{field_lt, field-add, field-snoc, field_past, field-up, field_end, window-up}
+use Rattle.bitstream.proofs.FieldLaws.{field_lt, field-add, field-snoc, field_past, field-up, field_end, field-none, field-grow, window-up}
 use Rattle.bitstream.proofs.CodeLaws.{code_read, zeros-are}
 
 -- ---- what `window` computes
 
--- two fields of 32 bits are one of 64
-pub field-join : (s : List ℕ) (i x y : ℕ) → x ≡ field_at s (i * 8) 32 → y ≡ field_at s ((i + 4) * 8) 32 → x * 4294967296 + y ≡ field_at s (i * 8) 64
-field-join s i x y e f =
-    let q : i * 8 + 32 ≡ (i + 4) * 8 = omega arith in
-    rw (field-add s (i * 8) 32 32, q, ← e, ← f)
+-- the eight bytes from byte i on, as one number
+pub field-eight : (s y : List ℕ) (i : ℕ) → ((j : ℕ) → get_or s j 0 < 256) → y ≡ take 8 (drop i s) → from_be_bytes w64 y ≡ field_at s (i * 8) 64
+field-eight s y i below e =
+    let next : (n : ℕ) → n < 8 → field_at s (i * 8) (n * 8 + 8) ≡ field_at s (i * 8) (n * 8) * 256 + get_or y n 0 =
+    λ n h. let f = get_or-take 8 (drop i s) n 0 h ∙ get_or-drop i s n 0 in field-grow s i n _ _ refl (rw e (f, rw f (below (i + n)))) in
+    omega (arith, field-none s (i * 8), next 0 (omega arith), next 1 (omega arith), next 2 (omega arith), next 3 (omega arith), next 4 (omega arith), next 5 (omega arith), next 6 (omega arith), next 7 (omega arith))
 
 -- eight bytes from bit p's byte on, moved up to bit p
 pub window-here : (s : List ℕ) (p w : ℕ) → w ≡ field_at s (p / 8 * 8) 64 → (w * 2 ^ (p % 8)) % 2 ^ 64 ≡ window_at s p

@@ -167,7 +167,8 @@ impl BitReader {
         Ok(ue_of(place, code_in(window_alone(bytes, self.bit_pos)))?.signed())
     }
 
-    // ue(v), a short one by the table. Beside `ue`, which goes by the steps of clause 9.2 and needs none.
+    // ue(v), a short one by the table. Beside `ue`, which goes by the steps of clause 9.2 and needs none. Inlined: as a call it was slower.
+    #[inline(always)]
     pub fn ue_by_table(self, bytes: &[u8]) -> Result<Field<u32>, Refusal>
         ensures field { outcome_field result ≡ ue_at bytes.now self.bit_pos }
         ensures lacking { is_lacking result ≡ ue_lacking bytes.now self.bit_pos }

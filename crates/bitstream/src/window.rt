@@ -3,21 +3,12 @@ ghost use Rattle.std.specs.Prelude.{◌≡◌, ◌+◌, ◌*◌, ◌≤◌, ◌<
 ghost use Rattle.bitstream.specs.Bits.{field_at};
 ghost use Rattle.bitstream.specs.Windows.{window_at, code_in, found};
 
-// The four bytes from byte i on, as one number.
-fn four(bytes: &[u8], i: usize) -> u64
-    requires { i + 4 ≤ length bytes.now }
-    ensures { (result ≡ field_at bytes.now (i * 8) 32) × (result < 4294967296) }
-{
-    ((bytes[i] as u64 * 256 + bytes[i + 1] as u64) * 256 + bytes[i + 2] as u64) * 256
-        + bytes[i + 3] as u64
-}
-
-// The eight bytes from byte i on: in this form one load.
+// The eight bytes from byte i on, as one number: one load.
 fn eight(bytes: &[u8], i: usize) -> u64
     requires { i + 8 ≤ length bytes.now }
     ensures { result ≡ field_at bytes.now (i * 8) 64 }
 {
-    four(bytes, i) * 4294967296 + four(bytes, i + 4)
+    u64::from_be_bytes(*bytes[i..].first_chunk().unwrap())
 }
 
 // The 64 - p % 8 bits from bit p on, zeros past the end, as the highest of a word whose rest is 0.
@@ -31,7 +22,7 @@ pub fn window(bytes: &[u8], p: usize) -> u64
     window_alone(bytes, p)
 }
 
-// The same, and a call, so that `window` is small enough to stand in a loop: one body for both was slower. Near the end it is the last eight bytes, moved up.
+// The same, past the end asked first: `window` asks first for eight whole bytes. Near the end it is the last eight bytes, moved up.
 pub fn window_alone(bytes: &[u8], p: usize) -> u64
     ensures { result ≡ window_at bytes.now p }
 {

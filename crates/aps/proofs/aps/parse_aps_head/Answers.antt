@@ -6,5 +6,5 @@ use Rattle.aps.proofs.aps.parse_aps_head.Goals as goal
 
 pub returns : goal.returns
 returns c =
-    let p = c.pass_payload.ensures.past in
+    let p = c.pass_payload.ensures in
     remade p.set head_of p.head (p.read ∙ c.in_ok-open_rbsp.ensures)

@@ -4,22 +4,22 @@ use Rattle.aps.specs.Inner.{ended}
 use Rattle.aps.proofs.ending.close_rbsp.Goals as goal
 use Rattle.aps.proofs.ending.close_rbsp.Goals.{then-not-extension+in_ok-trailing, else-not-extension}
 
-pub returns-in_err-extension-clause-set : goal.returns-in_err-extension-clause-set
+pub returns-in_err-extension : goal.returns-in_err-extension
 unfolding ended
-returns-in_err-extension-clause-set c =
+returns-in_err-extension c =
     let e : c.from_residual.result ≡ Err c.in_err-extension.field-0.0 = search rules in
     rw (e, ← c.in_err-extension.ensures.field)
 
-pub returns-in_err-trailing-clause-set : goal.returns-in_err-trailing-clause-set
+pub returns-in_err-trailing : goal.returns-in_err-trailing
 unfolding ended
-returns-in_err-trailing-clause-set c =
+returns-in_err-trailing c =
     let e : c.from_residual-in_err-trailing.result ≡ Err c.in_err-trailing.field-0.0 = search rules in
     let f = rw c.in_ok-extension.ensures.bytes at c.in_err-trailing.ensures.field in
     rw (e, ← c.in_ok-extension.ensures.field, c.if-not-extension.true, ← f)
 
-pub returns-clause-set : goal.returns-clause-set
+pub returns : goal.returns
 unfolding ended
-returns-clause-set c =
+returns c =
     elim c.if-not-extension.branch [
       | then-not-extension+in_ok-trailing w ↦
           let f = rw c.in_ok-extension.ensures.bytes at w.in_ok-trailing.ensures.field in
