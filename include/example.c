@@ -21,24 +21,30 @@ static uint8_t table[APS_TABLE_BYTES];
 static uint8_t second[APS_TABLE_BYTES];
 static uint8_t work[APS_LONGEST_INPUT];
 static uint8_t out[APS_LIST_BYTES];
-static int64_t set[APS_NUMBERS];
+static aps_alf alf;
+static aps_lmcs lmcs;
+static aps_scaling scaling;
 static uint8_t long_input[APS_LONGEST_INPUT + 1];
 
 static void sets_in_force(void)
 {
     uint64_t counts[3], len[1];
-    uint8_t flags[2];
+    aps_head head;
 
     aps_table_new(table);
     check("stream", aps_take_stream(table, stream, sizeof stream, work, sizeof work, counts), 0);
     check("accepted", counts[0], 2);
     check("refused", counts[1], 0);
     check("passed over", counts[2], 0);
-    check("LMCS 0", aps_lookup(table, APS_LMCS, 0, set), 0);
-    check("delta max", set[APS_AT_LMCS_DELTA_MAX_BIN_IDX], 15);
-    check("flags", aps_lookup_flags(table, APS_ALF, 0, flags), 0);
-    check("chroma", flags[0], 0);
-    check("extension", flags[1], 0);
+    check("LMCS 0", aps_lmcs_lookup(table, 0, &lmcs), 0);
+    check("delta max", lmcs.lmcs_delta_max_bin_idx, 15);
+    check("head", aps_head_lookup(table, APS_ALF, 0, &head), 0);
+    check("kind", head.kind, APS_ALF);
+    check("id", head.aps_adaptation_parameter_set_id, 0);
+    check("chroma", head.aps_chroma_present_flag, 0);
+    check("extension", head.aps_extension_flag, 0);
+    check("ALF 0", aps_alf_lookup(table, 0, &alf), 0);
+    check("luma filters", alf.alf_luma_filter_signal_flag, 0);
 
     check("list", aps_write_list(table, out, sizeof out, len), 0);
     check("length", len[0], sizeof list);
@@ -46,52 +52,61 @@ static void sets_in_force(void)
 
     aps_table_new(second);
     check("read back", aps_take_stream(second, out, len[0], work, sizeof work, counts), 0);
-    check("LMCS 0 again", aps_lookup(second, APS_LMCS, 0, set), 0);
-    check("delta max again", set[APS_AT_LMCS_DELTA_MAX_BIN_IDX], 15);
+    check("LMCS 0 again", aps_lmcs_lookup(second, 0, &lmcs), 0);
+    check("delta max again", lmcs.lmcs_delta_max_bin_idx, 15);
 }
 
 static void one_set(void)
 {
     uint64_t end[1], len[1];
+    aps_head head;
 
-    check("set", aps_parse_rbsp(stream + 6, 3, set, end), 0);
+    check("its kind", stream[6] >> 5, APS_LMCS);
+    check("head", aps_head_parse_rbsp(stream + 6, 3, &head, end), 0);
+    check("kind", head.kind, APS_LMCS);
+    check("set", aps_lmcs_parse_rbsp(stream + 6, 3, &lmcs, end), 0);
     check("bit", end[0], 24);
-    check("written", aps_write(set, APS_NUMBERS, out, sizeof out, len), 0);
+    check("delta max", lmcs.lmcs_delta_max_bin_idx, 15);
+    check("written", aps_lmcs_write(&lmcs, out, sizeof out, len), 0);
     check("three bytes", len[0], 3);
     check("the same", memcmp(out, stream + 6, 3), 0);
-    check("unit", aps_write_nal(set, APS_NUMBERS, 17, out, sizeof out, len), 0);
+    check("unit", aps_lmcs_write_nal(&lmcs, 17, out, sizeof out, len), 0);
     check("the same unit", len[0] == 5 && memcmp(out, stream + 4, 5) == 0, 1);
+    check("out of the unit", aps_lmcs_parse(out, 5, work, sizeof work, &lmcs, end), 0);
+    check("bit again", end[0], 24);
     check("escaped", aps_rbsp_to_ebsp((const uint8_t[]){0, 0, 1}, 3, out, sizeof out, len), 0);
     check("four bytes", len[0], 4);
 }
 
-/* Null with length 0, and lengths that are wrong: a number each, never a fault. */
+/* Null with length 0, and lengths and flags that are wrong: a number each, never a fault. arguments.c has more. */
 static void refused(void)
 {
     uint64_t counts[3], len[1], end[1];
-    uint8_t flags[2] = {9, 9};
+    aps_head head = {9, 9, 9, 9};
 
     aps_table_new(table);
     check("no bytes", aps_take_stream(table, NULL, 0, NULL, 0, counts), 0);
     check("no unit", aps_take_unit(table, NULL, 0, NULL, 0), APS_UNEXPECTED_END);
-    check("no RBSP", aps_parse_rbsp(NULL, 0, set, end), APS_UNEXPECTED_END);
-    check("a set that is cut off", aps_parse_rbsp((const uint8_t[]){0x24}, 1, set, end), APS_UNEXPECTED_END);
-    check("no numbers", aps_write(NULL, 0, out, sizeof out, len), APS_INVALID_DATA);
-    check("too few numbers", aps_write(set, APS_NUMBERS - 1, out, sizeof out, len), APS_INVALID_DATA);
-    check("no output", aps_write_nal(set, APS_NUMBERS, 17, NULL, 0, len), APS_OUTPUT_TOO_SHORT);
+    check("no RBSP", aps_alf_parse_rbsp(NULL, 0, &alf, end), APS_UNEXPECTED_END);
+    check("a set that is cut off", aps_lmcs_parse_rbsp((const uint8_t[]){0x24}, 1, &lmcs, end), APS_UNEXPECTED_END);
+    check("another kind", aps_scaling_parse_rbsp(stream + 6, 3, &scaling, end), APS_INVALID_DATA);
+    check("no output", aps_lmcs_write_nal(&lmcs, 17, NULL, 0, len), APS_OUTPUT_TOO_SHORT);
+    lmcs.lmcs_delta_sign_crs_flag = 2;
+    check("a flag 2", aps_lmcs_write(&lmcs, out, sizeof out, len), APS_INVALID_DATA);
     check("nothing to escape", aps_rbsp_to_ebsp(NULL, 0, NULL, 0, len), 0);
     check("empty list", aps_write_list(table, NULL, 0, len), 0);
     check("no byte of it", len[0], 0);
     check("short work buffer", aps_take_stream(table, stream, sizeof stream, work, sizeof stream - 1, counts), APS_OUTPUT_TOO_SHORT);
     check("a byte before the first unit", aps_take_stream(table, stream + 4, 5, work, sizeof work, counts), APS_INVALID_DATA);
     check("another type", aps_take_unit(table, (const uint8_t[]){0, 9}, 2, work, sizeof work), APS_PASSED_OVER);
-    check("empty place", aps_lookup_flags(table, APS_ALF, 0, flags), APS_EMPTY_PLACE);
-    check("no such place", aps_lookup(table, APS_LMCS, 4, set), APS_INVALID_DATA);
+    check("empty place", aps_head_lookup(table, APS_ALF, 0, &head), APS_EMPTY_PLACE);
+    check("no such place", aps_lmcs_lookup(table, 4, &lmcs), APS_INVALID_DATA);
+    check("no such kind", aps_head_lookup(table, 3, 0, &head), APS_INVALID_DATA);
     check("long stream", aps_take_stream(table, long_input, sizeof long_input, work, sizeof work, counts), APS_INPUT_TOO_LONG);
     check("long unit", aps_take_unit(table, long_input, sizeof long_input, work, sizeof work), APS_INPUT_TOO_LONG);
     check("extension flag 1", aps_take_unit(table, (const uint8_t[]){0, 0x89, 0x00, 0x20}, 4, work, sizeof work), 0);
     check("its list", aps_write_list(table, out, sizeof out, len), APS_UNSUPPORTED);
-    check("flags kept", flags[0] == 9 && flags[1] == 9, 1);
+    check("head kept", head.kind == 9 && head.aps_extension_flag == 9, 1);
 }
 
 int main(void)

@@ -1,4 +1,4 @@
-//! Finds libaps_c.a: in the folder that KENDWYRA_LIB names, else in the repository's target/staticlib.
+//! Finds libkendwyra.a: in the folder that KENDWYRA_LIB names, else in the repository's target/staticlib.
 
 use std::env;
 use std::path::{Path, PathBuf};
@@ -11,14 +11,14 @@ fn folder() -> PathBuf {
 }
 
 fn main() {
-    let library = folder().join("libaps_c.a");
+    let library = folder().join("libkendwyra.a");
     println!("cargo:rerun-if-env-changed=KENDWYRA_LIB");
     println!("cargo:rerun-if-changed={}", library.display());
     if !library.is_file() {
         eprintln!("kendwyra: there is no {}.", library.display());
-        eprintln!("Run `tools/archives` at the repository's top, or set KENDWYRA_LIB to the folder of libaps_c.a.");
+        eprintln!("Run `tools/archives` at the repository's top, or set KENDWYRA_LIB to the folder of libkendwyra.a.");
         exit(1);
     }
     println!("cargo:rustc-link-search=native={}", folder().display());
-    println!("cargo:rustc-link-lib=static=aps_c");
+    println!("cargo:rustc-link-lib=static=kendwyra");
 }

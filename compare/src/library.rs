@@ -1,10 +1,11 @@
-//! The proved libraries' calls, by the archives of target/staticlib.
+//! The proved library's calls.
 
 pub mod sets;
+pub mod structs;
 pub mod table;
 
+/// The calls that the crate has no declarations of; its archive has them.
 pub mod raw {
-    #[link(name = "bitstream_c", kind = "static")]
     extern "C" {
         pub fn bitstream_u(bytes: *const u8, len: usize, at: usize, n: u32, answer: *mut u64) -> u32;
         pub fn bitstream_ue(bytes: *const u8, len: usize, at: usize, answer: *mut u64) -> u32;

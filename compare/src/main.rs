@@ -1,4 +1,4 @@
-//! Compares the proved libraries with the Rust that they follow, and measures both.
+//! Compares the proved library with the Rust that it follows, and measures both.
 #![allow(dead_code)] // parts of the Rust that are not compared
 
 // The Rust: bit_reader, bit_writer, nal, h266::aps, the header of h266, and BitstreamError.

@@ -1,4 +1,4 @@
-//! The sample that the program `replay_sets` reads, a name and an RBSP to a line, some with a change of one number after it, and what the
+//! The sample that the program `replay_sets` reads, a name and an RBSP to a line, some with a change of one field after it, and what the
 //! program must write.
 
 mod changes;
@@ -25,7 +25,7 @@ pub fn print_sample() {
     }
 }
 
-/// The bit where reading ended and the numbers that are not 0, after the index of the first in a row; or the refusal's number.
+/// The bit where reading ended and the fields that are not 0, after the index of the first in a row; or the refusal's number.
 pub fn print_answers() {
     for case in sample() {
         let answer = match expected::sets::parse_rbsp(&case.rbsp) {

@@ -87,3 +87,15 @@ pub extern "C" fn rewrite(bytes: *const u8, len: usize, out: *mut u8, room: usiz
         _ => 0,
     }
 }
+
+#[inline(never)]
+pub extern "C" fn write(set: &aps::VvcAps, out: *mut u8, room: usize) -> u32 {
+    let out = unsafe { std::slice::from_raw_parts_mut(out, room) };
+    match aps::write_aps(set) {
+        Ok(written) if written.len() <= room => {
+            out[..written.len()].copy_from_slice(&written);
+            written.len() as u32
+        }
+        _ => 0,
+    }
+}

@@ -4,7 +4,7 @@ pub mod make;
 
 use crate::expected;
 use crate::h266::aps;
-use crate::library::sets::{nal_header, Lent};
+use crate::library::sets::{kind_of, nal_header, Answer, Lent};
 use crate::nal;
 use crate::random::Random;
 use crate::tally::Tally;
@@ -23,20 +23,47 @@ pub fn compare() -> Vec<Tally> {
     ]
 }
 
-/// Every number of the set and the bit where reading ended, or the refusal's number.
+/// What the call of another kind answers: the same refusal, and 2 for a set.
+fn of_another_kind(expected: &Answer) -> Answer {
+    Err(expected.as_ref().err().copied().unwrap_or(2))
+}
+
+/// A set's head and the bit where reading it ended.
+fn head(expected: &Answer) -> Answer {
+    expected.as_ref().map(|(set, end)| (set.head(), *end)).map_err(|&e| e)
+}
+
+/// An answer that must be this one, and is no case of its own.
+fn beside(t: &mut Tally, asked: impl FnOnce() -> String, library: Answer, expected: Answer) {
+    if library != expected {
+        t.same(asked, library, expected);
+    }
+}
+
+/// Every number of the set and the bit where reading ended, or the refusal's number, by the call of its kind; beside that by the calls of the
+/// other kinds, of the head, and of each kind's end.
 fn rbsp(t: &mut Tally, lent: &mut Lent, bytes: &[u8]) {
     let asked = || format!("RBSP {bytes:02X?}");
     let expected = expected::sets::parse_rbsp(bytes);
+    let own = kind_of(bytes.first());
+    beside(
+        t,
+        || format!("head, {}", asked()),
+        lent.head_of_rbsp(bytes),
+        head(&expected),
+    );
     let end = expected.as_ref().map(|(_, end)| *end).map_err(|&e| e);
-    t.same(asked, lent.parse_rbsp(bytes), expected);
-    if lent.rbsp_end(bytes) != end {
-        t.same(asked, lent.rbsp_end(bytes), end);
-    }
     for kind in 0..3 {
-        if lent.kind_end(kind, bytes) != end {
-            t.same(asked, lent.kind_end(kind, bytes), end);
+        let ended = lent.kind_end(kind, bytes);
+        if ended != end {
+            t.same(|| format!("end by kind {kind}, {}", asked()), ended, end);
+        }
+        if kind != own {
+            let asked = || format!("by kind {kind}, {}", asked());
+            beside(t, asked, lent.parse_rbsp(kind, bytes), of_another_kind(&expected));
         }
     }
+    t.same(asked, lent.parse_rbsp(own, bytes), expected);
 }
 
 fn every_short_rbsp() -> Tally {
@@ -137,7 +164,8 @@ fn cut_rbsps() -> Tally {
             let good = written(&mut random, kind, round);
             for len in 0..good.len() {
                 let cut = &good[..len];
-                t.same(|| format!("cut RBSP {cut:02X?}"), lent.parse_rbsp(cut), Err(1));
+                let asked = || format!("cut RBSP {cut:02X?}");
+                t.same(asked, lent.parse_rbsp(kind.into(), cut), Err(1));
                 rbsp(&mut t, &mut lent, &extended(&good)[..len]);
             }
         }
@@ -168,18 +196,38 @@ fn flipped_and_long_rbsps() -> Tally {
     t
 }
 
-/// One unit with a work buffer: the answer, and every byte of the buffer after it.
+/// One unit with a work buffer, as an RBSP above: the answer, and every byte of the buffer after it.
 fn unit(t: &mut Tally, lent: &mut Lent, unit: &[u8], work: &[u8]) {
     let asked = || format!("unit {unit:02X?} with {} bytes of work", work.len());
     let (expected, after) = expected::sets::parse(unit, work);
-    let mut ended = work.to_vec();
-    let end = (lent.unit_end(unit, &mut ended), ended);
-    let expected_end = (expected.as_ref().map(|(_, end)| *end).map_err(|&e| e), after.clone());
-    if end != expected_end {
-        t.same(asked, end, expected_end);
-    }
+    let own = kind_of(unit.get(2));
     let mut read = work.to_vec();
-    t.same(asked, (lent.parse(unit, &mut read), read), (expected, after));
+    beside(
+        t,
+        || format!("head, {}", asked()),
+        lent.head_of_unit(unit, &mut read),
+        head(&expected),
+    );
+    same_work(t, asked, &read, &after);
+    for kind in (0..3).filter(|&kind| kind != own) {
+        read.copy_from_slice(work);
+        let answer = lent.parse(kind, unit, &mut read);
+        beside(
+            t,
+            || format!("by kind {kind}, {}", asked()),
+            answer,
+            of_another_kind(&expected),
+        );
+        same_work(t, asked, &read, &after);
+    }
+    read.copy_from_slice(work);
+    t.same(asked, (lent.parse(own, unit, &mut read), read), (expected, after));
+}
+
+fn same_work(t: &mut Tally, asked: impl FnOnce() -> String, library: &[u8], expected: &[u8]) {
+    if library != expected {
+        t.same(|| format!("work after {}", asked()), library, expected);
+    }
 }
 
 /// Work buffers just long enough, one byte less, longer and empty.

@@ -72,13 +72,13 @@ pub fn print(times: &Times) {
         return;
     }
     println!(
-        "\n{:<46}{:>13}{:>13}{:>13}{:>11}{:>11}",
+        "\n{:<56}{:>13}{:>13}{:>13}{:>11}{:>11}",
         "ns for a call", "Rust inlined", "Rust called", "library", "inl./lib.", "call./lib."
     );
     for t in &times.calls {
         let (inlined, called) = (t.inlined / t.library, t.called / t.library);
         println!(
-            "{:<46}{:>13.2}{:>13.2}{:>13.2}{:>11.2}{:>11.2}",
+            "{:<56}{:>13.2}{:>13.2}{:>13.2}{:>11.2}{:>11.2}",
             t.name, t.inlined, t.called, t.library, inlined, called
         );
     }

@@ -1,13 +1,11 @@
 //! Sets written as RBSPs and as units, compared at scale: records in range, with numbers off, and at the limits of their types.
 
-use std::ops::Range;
-
 use crate::expected;
-use crate::library::sets::{kind_rewrite, rewrite, write, write_nal};
+use crate::library::sets::{kind_rewrite, rewrite, write, write_nal, HEAD};
+use crate::library::structs::{flags, types};
 use crate::random::Random;
 use crate::sets::make::{Maker, STYLES};
 use crate::tally::Tally;
-use kendwyra::sets::NUMBERS;
 
 pub fn compare() -> Vec<Tally> {
     vec![
@@ -16,7 +14,8 @@ pub fn compare() -> Vec<Tally> {
         some_numbers_off(),
         limits(),
         units(),
-        no_sets(),
+        no_flags(),
+        every_id(),
         rewritten(),
     ]
 }
@@ -82,43 +81,15 @@ fn sets_in_range() -> Tally {
     t
 }
 
-/// Kind, id and flags, then the records of the three kinds.
-const RECORDS: [Range<usize>; 3] = [4..1195, 1195..1232, 1232..NUMBERS];
-
-/// The least and the largest number of a place: `held` of crates/aps_c/specs/SetOf.antt.
-fn range(i: usize) -> (i64, i64) {
-    let flag = (0, 1);
-    let byte = (0, 255);
-    let word = (0, u32::MAX.into());
-    match i {
-        0 => (0, 2),
-        1 => byte,
-        2..=8 => flag,
-        9 => word,
-        10..=34 => byte,
-        35..=334 => word,
-        335..=634 => flag,
-        635..=934 => byte,
-        935 => flag,
-        936..=984 => word,
-        985..=1032 => flag,
-        1033..=1080 => byte,
-        1081 | 1138 => word,
-        1082..=1109 | 1139..=1166 => byte,
-        1110..=1137 | 1167..=1194 => flag,
-        1195..=1213 => word,
-        1214..=1229 => flag,
-        1230 => byte,
-        1231 => flag,
-        1232..=1287 => flag,
-        1288..=1315 => word,
-        _ => (i32::MIN.into(), i32::MAX.into()),
-    }
+/// The least and the largest number of a place after the kind.
+fn range(set: &[i64], i: usize) -> (i64, i64) {
+    types(set[0] as usize)[i - 1].range()
 }
 
 /// Any number that the place can hold, near the limits of fields and types most often.
-fn other(random: &mut Random, i: usize, old: i64) -> i64 {
-    let (low, high) = range(i);
+fn other(random: &mut Random, set: &[i64], i: usize) -> i64 {
+    let (low, high) = range(set, i);
+    let old = set[i];
     let near = [
         0, 1, 2, 3, 4, 7, 8, 14, 15, 16, 24, 25, 127, 128, 129, 255, 256, -1, -128, -129,
     ];
@@ -133,15 +104,15 @@ fn other(random: &mut Random, i: usize, old: i64) -> i64 {
     n.clamp(low, high)
 }
 
-/// A place of the set's own record, or one of the first four.
+/// A place of the kind's own fields, or the id or a flag before them; a struct holds no kind.
 fn place(random: &mut Random, set: &[i64]) -> usize {
     if random.below(12) == 0 {
-        return random.below(4);
+        return 1 + random.below(HEAD - 1);
     }
-    let own = RECORDS[set[0].clamp(0, 2) as usize].clone();
+    let own = set.len() - HEAD;
     match random.below(3) {
-        0 => own.start + random.below(own.len().min(60)),
-        _ => own.start + random.below(own.len()),
+        0 => HEAD + random.below(own.min(60)),
+        _ => HEAD + random.below(own),
     }
 }
 
@@ -153,7 +124,7 @@ fn one_number_off() -> Tally {
         for _ in 0..16 {
             let mut set = good.clone();
             let i = place(&mut random, &set);
-            set[i] = other(&mut random, i, set[i]);
+            set[i] = other(&mut random, &set, i);
             let room = [3_000, 3_000, 20, 0][random.below(4)];
             rbsp(&mut t, &set, room);
         }
@@ -162,16 +133,16 @@ fn one_number_off() -> Tally {
 }
 
 fn some_numbers_off() -> Tally {
-    let mut t = Tally::new("sets with some numbers changed, also of other kinds");
+    let mut t = Tally::new("sets with some numbers changed");
     let mut random = Random::new(22);
     for round in 0..120_000 {
         let mut set = in_range(&mut random, round);
         for _ in 0..=random.below(4) {
             let i = match random.below(4) {
-                0 => random.below(NUMBERS),
+                0 => 1 + random.below(set.len() - 1),
                 _ => place(&mut random, &set),
             };
-            set[i] = other(&mut random, i, set[i]);
+            set[i] = other(&mut random, &set, i);
         }
         rbsp(&mut t, &set, 3_000);
         unit(&mut t, &set, 17, 5_000);
@@ -181,22 +152,21 @@ fn some_numbers_off() -> Tally {
 
 /// Every number at a limit of its type, or 0, or of a small range.
 fn limits() -> Tally {
-    let mut t = Tally::new("records at the limits of their types");
+    let mut t = Tally::new("structs at the limits of their types");
     let mut random = Random::new(23);
     for round in 0..60_000 {
         let all = random.below(4);
-        let mut set: Vec<i64> = (0..NUMBERS)
-            .map(|i| {
-                let (low, high) = range(i);
-                match all {
-                    0 => [low, high][random.below(2)],
-                    1 => [0, 0, 0, 0, 0, 0, low, high][random.below(8)],
-                    2 => (random.below(3) as i64 - 1).clamp(low, high),
-                    _ => (random.next() as i64).clamp(low, high),
-                }
-            })
-            .collect();
-        set[0] = (round % 3) as i64;
+        let kind = round % 3;
+        let mut set = vec![kind as i64];
+        set.extend(types(kind).into_iter().map(|of| {
+            let (low, high) = of.range();
+            match all {
+                0 => [low, high][random.below(2)],
+                1 => [0, 0, 0, 0, 0, 0, low, high][random.below(8)],
+                2 => (random.below(3) as i64 - 1).clamp(low, high),
+                _ => (random.next() as i64).clamp(low, high),
+            }
+        }));
         if random.below(4) > 0 {
             set[1] = random.below(4) as i64;
             set[3] = 0;
@@ -221,33 +191,53 @@ fn units() -> Tally {
     t
 }
 
-/// Numbers that are no set's: too few or too many, or one that its field can't hold.
-fn no_sets() -> Tally {
-    let mut t = Tally::new("numbers that are no set's");
+/// Each flag of each kind with bytes that are neither 0 nor 1: 2, or 3 where the extension flag is 1; a unit's type comes first.
+fn no_flags() -> Tally {
+    let mut t = Tally::new("flags that are neither 0 nor 1");
     let mut random = Random::new(25);
-    let mut refused = |set: &[i64]| {
-        let before = vec![FILLER; 3_000];
-        for unit_type in [None, Some(17)] {
-            let mut after = before.clone();
-            let answer = match unit_type {
-                None => write(set, &mut after),
-                Some(n) => write_nal(set, n, &mut after),
-            };
-            t.same(|| format!("{:?}", shown(set)), (answer, &after), (Err(2), &before));
-        }
+    let mut refused = |set: &[i64], name: &str, unit_type: Option<u8>, room: usize, code: u32| {
+        let before = vec![FILLER; room];
+        let mut after = before.clone();
+        let answer = match unit_type {
+            None => write(set, &mut after),
+            Some(n) => write_nal(set, n, &mut after),
+        };
+        let asked = || format!("{name}, unit type {unit_type:?}, {room} bytes for {:?}", shown(set));
+        t.same(asked, (answer, &after), (Err(code), &before));
     };
-    let good = in_range(&mut random, 4);
-    for len in [0, 1, NUMBERS - 1, NUMBERS + 1, 2 * NUMBERS] {
-        let mut set = good.clone();
-        set.resize(len, 0);
-        refused(&set);
+    for round in 0..24 {
+        let good = in_range(&mut random, round);
+        for (i, name) in flags(good[0] as usize) {
+            for byte in [2, 255, 3 + random.below(252) as i64] {
+                for extension in [0, 1] {
+                    let mut set = good.clone();
+                    set[3] = extension;
+                    set[i] = byte;
+                    let code = if set[3] == 1 { 3 } else { 2 };
+                    let room = [3_000, 0][random.below(2)];
+                    refused(&set, name, None, room, code);
+                    refused(&set, name, Some(17 + random.below(2) as u8), room, code);
+                    refused(&set, name, Some(19 + random.below(237) as u8), room, 2);
+                }
+            }
+        }
     }
-    for i in 0..NUMBERS {
-        let (low, high) = range(i);
-        for n in [low - 1, high + 1, i64::MIN, i64::MAX] {
-            let mut set = good.clone();
-            set[i] = n;
-            refused(&set);
+    t
+}
+
+/// Every id of each kind, with extension flag 0 and 1.
+fn every_id() -> Tally {
+    let mut t = Tally::new("sets with every id");
+    let mut random = Random::new(27);
+    for round in 0..12 {
+        let good = in_range(&mut random, round);
+        for id in 0..=255 {
+            for extension in [0, 1] {
+                let mut set = good.clone();
+                (set[1], set[3]) = (id, extension);
+                rbsp(&mut t, &set, 3_000);
+                unit(&mut t, &set, 18, 5_000);
+            }
         }
     }
     t

@@ -1,6 +1,7 @@
 //! H.266 adaptation parameter sets (APS): read from a stream, held in a table, and written before a clip's first picture.
 //!
-//! Each call is one of Kendwyra's proved static library, libaps_c.a; this crate only declares them and carries sets over.
+//! Each call is one of Kendwyra's proved static library, libkendwyra.a; this crate only declares them. Sets are structs of C's layout, which
+//! the library reads and writes where they are.
 //!
 //! ```
 //! use kendwyra::{Kind, Refusal, Table};
@@ -12,16 +13,16 @@
 //! let counts = table.take_stream(&stream, &mut work)?;
 //! assert_eq!(counts.accepted, 2);
 //!
-//! let set = table.lookup(Kind::Lmcs.number(), 0)?;
-//! assert_eq!(set.lmcs.lmcs_delta_max_bin_idx, 15);
-//! assert_eq!(table.lookup(Kind::Scaling.number(), 0), Err(Refusal::EmptyPlace));
+//! let set = table.lmcs(0)?;
+//! assert_eq!(set.lmcs_delta_max_bin_idx, 15);
+//! assert_eq!(table.lookup(Kind::Scaling, 0), Err(Refusal::EmptyPlace));
 //!
 //! // The list at a cut, ALF before LMCS, and a second table that reads it.
 //! let list = table.list()?;
 //! assert_eq!(list, [0, 0, 0, 1, 0x00, 0x89, 0x00, 0x10, 0, 0, 0, 1, 0x00, 0x89, 0x20, 0x42, 0x12]);
 //! let mut second = Table::new();
 //! second.take_stream(&list, &mut work)?;
-//! assert_eq!(second.lookup(Kind::Lmcs.number(), 0)?, set);
+//! assert_eq!(second.lmcs(0)?, set);
 //! # Ok::<(), Refusal>(())
 //! ```
 
@@ -34,8 +35,8 @@ pub mod sets;
 pub mod table;
 
 pub use error::Refusal;
-pub use sets::{Aps, Kind};
-pub use table::{Counts, Flags, Table, Taken};
+pub use sets::{Alf, Aps, Head, Kind, Lmcs, Scaling};
+pub use table::{Counts, Table, Taken};
 
 /// Bytes of a table.
 pub const TABLE_BYTES: usize = 30_252;

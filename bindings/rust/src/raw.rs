@@ -1,12 +1,13 @@
-//! The exports of libaps_c.a themselves, for callers that keep their own arrays: a slice crosses as pointer and length, an array by
-//! reference, and the answer is 0 or a refusal's number.
+//! The exports of libkendwyra.a themselves, for callers that keep their own arrays: a slice crosses as pointer and length, an array by
+//! reference, a set by pointer, and the answer is 0 or a refusal's number.
 //!
 //! # Safety
 //!
 //! For each call: a pointer and its length are those of memory that is readable, or writable where something is written, and that overlaps
-//! nothing else that is lent. Any bytes are some table.
+//! nothing else that is lent. A pointer to a set is that of memory as large and as aligned as the set, readable or writable too; a set that is
+//! written out may be any bytes, flags other than 0 and 1 with them. Any bytes are some table.
 
-use crate::sets::NUMBERS;
+use crate::sets::{Alf, Head, Lmcs, Scaling};
 use crate::TABLE_BYTES;
 
 /// The code of a unit alone that is neither taken nor refused.
@@ -16,37 +17,68 @@ extern "C" {
     /// A unit's header as its five fields.
     pub fn aps_parse_nal_header(unit: *const u8, len: usize, header: &mut [u8; 5]) -> u32;
 
-    /// The set of an RBSP, and the bit where reading ended.
-    pub fn aps_parse_rbsp(bytes: *const u8, len: usize, set: &mut [i64; NUMBERS], end: &mut u64) -> u32;
+    /// Of the set of an RBSP the kind, the id and the flags, and the bit where reading ended.
+    pub fn aps_head_parse_rbsp(bytes: *const u8, len: usize, head: *mut Head, end: &mut u64) -> u32;
 
-    /// The bit where reading the set of an RBSP ended.
-    pub fn aps_rbsp_end(bytes: *const u8, len: usize, end: &mut u64) -> u32;
-
-    /// The set of a unit, and the bit of its RBSP where reading ended.
-    pub fn aps_parse(
+    /// The same of the set of a unit.
+    pub fn aps_head_parse(
         unit: *const u8,
         len: usize,
         work: *mut u8,
         room: usize,
-        set: &mut [i64; NUMBERS],
+        head: *mut Head,
         end: &mut u64,
     ) -> u32;
 
-    /// The bit where reading the set of a unit ended.
-    pub fn aps_unit_end(unit: *const u8, len: usize, work: *mut u8, room: usize, end: &mut u64) -> u32;
+    /// The ALF set of an RBSP, and the bit where reading ended.
+    pub fn aps_alf_parse_rbsp(bytes: *const u8, len: usize, set: *mut Alf, end: &mut u64) -> u32;
 
-    /// A set as an RBSP.
-    pub fn aps_write(set: *const i64, numbers: usize, out: *mut u8, room: usize, len: &mut u64) -> u32;
+    /// The ALF set of a unit, and the bit of its RBSP where reading ended.
+    pub fn aps_alf_parse(unit: *const u8, len: usize, work: *mut u8, room: usize, set: *mut Alf, end: &mut u64) -> u32;
 
-    /// A set as a unit.
-    pub fn aps_write_nal(
-        set: *const i64,
-        numbers: usize,
-        unit_type: u8,
-        out: *mut u8,
+    /// An ALF set as an RBSP.
+    pub fn aps_alf_write(set: *const Alf, out: *mut u8, room: usize, len: &mut u64) -> u32;
+
+    /// An ALF set as a unit.
+    pub fn aps_alf_write_nal(set: *const Alf, unit_type: u8, out: *mut u8, room: usize, len: &mut u64) -> u32;
+
+    /// The LMCS set of an RBSP, and the bit where reading ended.
+    pub fn aps_lmcs_parse_rbsp(bytes: *const u8, len: usize, set: *mut Lmcs, end: &mut u64) -> u32;
+
+    /// The LMCS set of a unit, and the bit of its RBSP where reading ended.
+    pub fn aps_lmcs_parse(
+        unit: *const u8,
+        len: usize,
+        work: *mut u8,
         room: usize,
-        len: &mut u64,
+        set: *mut Lmcs,
+        end: &mut u64,
     ) -> u32;
+
+    /// An LMCS set as an RBSP.
+    pub fn aps_lmcs_write(set: *const Lmcs, out: *mut u8, room: usize, len: &mut u64) -> u32;
+
+    /// An LMCS set as a unit.
+    pub fn aps_lmcs_write_nal(set: *const Lmcs, unit_type: u8, out: *mut u8, room: usize, len: &mut u64) -> u32;
+
+    /// The scaling set of an RBSP, and the bit where reading ended.
+    pub fn aps_scaling_parse_rbsp(bytes: *const u8, len: usize, set: *mut Scaling, end: &mut u64) -> u32;
+
+    /// The scaling set of a unit, and the bit of its RBSP where reading ended.
+    pub fn aps_scaling_parse(
+        unit: *const u8,
+        len: usize,
+        work: *mut u8,
+        room: usize,
+        set: *mut Scaling,
+        end: &mut u64,
+    ) -> u32;
+
+    /// A scaling set as an RBSP.
+    pub fn aps_scaling_write(set: *const Scaling, out: *mut u8, room: usize, len: &mut u64) -> u32;
+
+    /// A scaling set as a unit.
+    pub fn aps_scaling_write_nal(set: *const Scaling, unit_type: u8, out: *mut u8, room: usize, len: &mut u64) -> u32;
 
     /// The set of an RBSP written again.
     pub fn aps_rewrite(bytes: *const u8, len: usize, out: *mut u8, room: usize, written: &mut u64) -> u32;
@@ -92,11 +124,17 @@ extern "C" {
         counts: &mut [u64; 3],
     ) -> u32;
 
-    /// The set held for a kind and an id.
-    pub fn aps_lookup(table: &[u8; TABLE_BYTES], kind: u8, id: u8, set: &mut [i64; NUMBERS]) -> u32;
+    /// Of the set held for a kind and an id the kind, the id and the flags.
+    pub fn aps_head_lookup(table: &[u8; TABLE_BYTES], kind: u8, id: u8, head: *mut Head) -> u32;
 
-    /// The chroma flag and the extension flag of the set held for a kind and an id.
-    pub fn aps_lookup_flags(table: &[u8; TABLE_BYTES], kind: u8, id: u8, flags: &mut [u8; 2]) -> u32;
+    /// The ALF set held for an id.
+    pub fn aps_alf_lookup(table: &[u8; TABLE_BYTES], id: u8, set: *mut Alf) -> u32;
+
+    /// The LMCS set held for an id.
+    pub fn aps_lmcs_lookup(table: &[u8; TABLE_BYTES], id: u8, set: *mut Lmcs) -> u32;
+
+    /// The scaling set held for an id.
+    pub fn aps_scaling_lookup(table: &[u8; TABLE_BYTES], id: u8, set: *mut Scaling) -> u32;
 
     /// The list at a cut.
     pub fn aps_write_list(table: &[u8; TABLE_BYTES], out: *mut u8, room: usize, len: &mut u64) -> u32;

@@ -1,7 +1,7 @@
 //! The table of the sets in force.
 
 use crate::error::{answer, sized, Refusal};
-use crate::sets::{Aps, Kind, NUMBERS};
+use crate::sets::{Alf, Aps, Head, Kind, Lmcs, Scaling};
 use crate::{raw, LIST_BYTES, TABLE_BYTES};
 use std::fmt;
 
@@ -27,15 +27,6 @@ pub struct Counts {
     pub refused: usize,
     /// Units of other types.
     pub passed_over: usize,
-}
-
-/// The two flags of a held set.
-#[derive(Debug, Clone, Copy, PartialEq, Eq)]
-pub struct Flags {
-    /// The chroma flag.
-    pub aps_chroma_present_flag: bool,
-    /// The extension flag.
-    pub aps_extension_flag: bool,
 }
 
 impl Table {
@@ -72,24 +63,41 @@ impl Table {
         }
     }
 
-    /// The set held for a kind's number and an id: that of the last unit accepted for them.
-    pub fn lookup(&self, kind: u8, id: u8) -> Result<Aps, Refusal> {
-        let mut set = [0; NUMBERS];
-        // SAFETY: the box is a whole table, and `set` has the numbers of a set.
-        answer(unsafe { raw::aps_lookup(&self.0, kind, id, &mut set) })?;
-        Ok(Aps::of_library(&set))
+    /// The set held for a kind and an id: that of the last unit accepted for them.
+    pub fn lookup(&self, kind: Kind, id: u8) -> Result<Aps, Refusal> {
+        match kind {
+            Kind::Alf => self.alf(id).map(Aps::Alf),
+            Kind::Lmcs => self.lmcs(id).map(Aps::Lmcs),
+            Kind::Scaling => self.scaling(id).map(Aps::Scaling),
+        }
     }
 
-    /// The flags of the set held for a kind's number and an id.
-    pub fn flags(&self, kind: u8, id: u8) -> Result<Flags, Refusal> {
-        let mut flags = [0; 2];
-        // SAFETY: the box is a whole table, and `flags` has both flags.
-        answer(unsafe { raw::aps_lookup_flags(&self.0, kind, id, &mut flags) })?;
-        let [aps_chroma_present_flag, aps_extension_flag] = flags.map(|flag| flag != 0);
-        Ok(Flags {
-            aps_chroma_present_flag,
-            aps_extension_flag,
-        })
+    /// The ALF set held for an id.
+    pub fn alf(&self, id: u8) -> Result<Alf, Refusal> {
+        let mut set = Alf::default();
+        // SAFETY: the box is a whole table; the library is proved to write only 0 or 1 into flags, which are bools.
+        answer(unsafe { raw::aps_alf_lookup(&self.0, id, &mut set) }).map(|()| set)
+    }
+
+    /// The LMCS set held for an id.
+    pub fn lmcs(&self, id: u8) -> Result<Lmcs, Refusal> {
+        let mut set = Lmcs::default();
+        // SAFETY: as for an ALF set.
+        answer(unsafe { raw::aps_lmcs_lookup(&self.0, id, &mut set) }).map(|()| set)
+    }
+
+    /// The scaling set held for an id.
+    pub fn scaling(&self, id: u8) -> Result<Scaling, Refusal> {
+        let mut set = Scaling::default();
+        // SAFETY: as for an ALF set.
+        answer(unsafe { raw::aps_scaling_lookup(&self.0, id, &mut set) }).map(|()| set)
+    }
+
+    /// The kind, the id and the flags of the set held for a kind and an id.
+    pub fn head(&self, kind: Kind, id: u8) -> Result<Head, Refusal> {
+        let mut head = Head::default();
+        // SAFETY: as for an ALF set; the kind is proved to be 0 to 2.
+        answer(unsafe { raw::aps_head_lookup(&self.0, kind.number(), id, &mut head) }).map(|()| head)
     }
 
     /// Writes the list at a cut at the start of `out` and gives the length: each set held as a unit of type 17, by kind, then id.
@@ -115,13 +123,13 @@ impl Default for Table {
     }
 }
 
-/// Each filled place as its kind, id and flags.
+/// The head of each set held.
 impl fmt::Debug for Table {
     fn fmt(&self, f: &mut fmt::Formatter<'_>) -> fmt::Result {
         let places = Kind::ALL
             .into_iter()
             .flat_map(|kind| (0..=kind.max_id()).map(move |id| (kind, id)));
-        let filled = places.filter_map(|(kind, id)| Some((kind, id, self.flags(kind.number(), id).ok()?)));
-        f.debug_list().entries(filled).finish()
+        let heads = places.filter_map(|(kind, id)| self.head(kind, id).ok());
+        f.debug_list().entries(heads).finish()
     }
 }

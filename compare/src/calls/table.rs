@@ -14,7 +14,7 @@ use crate::speed::sets::calls;
 use crate::speed::table::foreign;
 use crate::speed::Run;
 use crate::tally::Tally;
-use kendwyra::{Aps, Counts, Refusal, Table, LIST_BYTES};
+use kendwyra::{Aps, Counts, Kind, Refusal, Table, LIST_BYTES};
 
 const CASES: usize = 2_000;
 
@@ -84,7 +84,7 @@ impl Both {
     }
 
     fn places(&self) -> (Vec<Result<Aps, u32>>, Vec<Result<Aps, u32>>) {
-        let ours = |(kind, id)| self.ours.lookup(kind, id).map_err(Refusal::number);
+        let ours = |name| looked_up(&self.ours, name).map_err(Refusal::number);
         let model = |(kind, id)| self.model.held(kind, id).map(record::set);
         (
             names().into_iter().map(ours).collect(),
@@ -102,6 +102,10 @@ impl Both {
             &mut || once(|| sum(taken(&mut self.ours, black_box(stream), &mut again))),
         )
     }
+}
+
+fn looked_up(table: &Table, (kind, id): (u8, u8)) -> Result<Aps, Refusal> {
+    table.lookup(Kind::ALL[usize::from(kind)], id)
 }
 
 fn taken(table: &mut Table, stream: &[u8], work: &mut [u8]) -> Result<[u64; 3], u32> {
@@ -182,13 +186,13 @@ fn lookup(kind: u8, name: &str) -> Row {
         ];
         assert!(accepted == [Ok([1, 0, 0]); 2], "a full set is accepted");
         let (kind, id) = match case % 10 {
-            9 => (random.below(4) as u8, random.below(10) as u8),
+            9 => (random.below(3) as u8, random.below(10) as u8),
             _ => place,
         };
         record::same(
             &mut t,
             || format!("lookup of kind {kind}, id {id}"),
-            both.ours.lookup(kind, id),
+            looked_up(&both.ours, (kind, id)),
             both.model.held(kind, id),
         );
     }
@@ -202,7 +206,7 @@ fn lookup(kind: u8, name: &str) -> Row {
         },
         &mut || {
             calls(&[0; 400], |_| {
-                black_box(&black_box(&ours).lookup(kind, id)).is_err().into()
+                black_box(&looked_up(black_box(&ours), (kind, id))).is_err().into()
             })
         },
     )

@@ -1,4 +1,4 @@
-//! Sets: what the Rust reads, as the numbers that cross the library's call boundary.
+//! Sets: what the Rust reads, as numbers in the order of library/structs.rs.
 
 use super::{document, is_short, number, short};
 use crate::h266::aps::{self, VvcAlfCcFilters, VvcAlfData, VvcAps, VvcApsPayload, VvcLmcsData, VvcScalingListData};
@@ -69,7 +69,7 @@ fn scaling(d: &VvcScalingListData) -> Vec<i64> {
     out
 }
 
-/// Kind, id, the two flags, then the three records, of which the other two are 0: `numbers` of crates/aps_c/specs/Numbers.antt.
+/// Kind, id, the two flags, then the fields of the set's kind.
 pub fn numbers(set: &VvcAps) -> Numbers {
     let mut out = vec![
         set.aps_params_type.into(),
@@ -77,12 +77,11 @@ pub fn numbers(set: &VvcAps) -> Numbers {
         set.aps_chroma_present_flag.into(),
         set.aps_extension_flag.into(),
     ];
-    let payload = match &set.payload {
-        VvcApsPayload::Alf(d) => [alf(d), vec![0; 37 + 1890]].concat(),
-        VvcApsPayload::Lmcs(d) => [vec![0; 1191], lmcs(d), vec![0; 1890]].concat(),
-        VvcApsPayload::ScalingList(d) => [vec![0; 1191 + 37], scaling(d)].concat(),
-    };
-    out.extend(payload);
+    out.extend(match &set.payload {
+        VvcApsPayload::Alf(d) => alf(d),
+        VvcApsPayload::Lmcs(d) => lmcs(d),
+        VvcApsPayload::ScalingList(d) => scaling(d),
+    });
     Numbers(out)
 }
 

@@ -135,19 +135,18 @@ impl Fields<'_> {
     }
 }
 
-/// The Rust's record of the numbers; only the payload of its own kind is looked at.
+/// The Rust's record of the numbers.
 fn record(numbers: &[i64]) -> VvcAps {
     let mut f = Fields(numbers);
     let [kind, id, chroma, extension] = f.array(|n| n as u8);
-    let (alf, lmcs, scaling) = (f.alf(), f.lmcs(), f.scaling());
     VvcAps {
         aps_params_type: kind,
         aps_adaptation_parameter_set_id: id,
         aps_chroma_present_flag: chroma != 0,
         payload: match kind {
-            0 => VvcApsPayload::Alf(Box::new(alf)),
-            1 => VvcApsPayload::Lmcs(lmcs),
-            _ => VvcApsPayload::ScalingList(Box::new(scaling)),
+            0 => VvcApsPayload::Alf(Box::new(f.alf())),
+            1 => VvcApsPayload::Lmcs(f.lmcs()),
+            _ => VvcApsPayload::ScalingList(Box::new(f.scaling())),
         },
         aps_extension_flag: extension != 0,
     }

@@ -1,12 +1,12 @@
-//! The sets library's calls, by the crate's declarations.
+//! The calls of sets, by the crate's declarations. Structs are lent as memory that holds marks, and flags are looked at as bytes.
 
 use std::hint::black_box;
 
+use super::structs::Struct;
 use super::{ARRAY_CHANGED, MARK};
-use kendwyra::raw;
-use kendwyra::sets::NUMBERS;
+use kendwyra::{raw, Alf, Head, Lmcs, Scaling, TABLE_BYTES};
 
-/// A set as its numbers; shown as those that are not 0, after the index of the first in a row.
+/// A set as its numbers, in the order of `structs`; shown as those that are not 0, after the index of the first in a row.
 #[derive(PartialEq)]
 pub struct Numbers(pub Vec<i64>);
 
@@ -26,68 +26,149 @@ impl std::fmt::Debug for Numbers {
     }
 }
 
+/// Kind, id, chroma flag and extension flag.
+pub const HEAD: usize = 4;
+
+impl Numbers {
+    pub fn head(&self) -> Numbers {
+        Numbers(self.0[..HEAD].to_vec())
+    }
+}
+
 /// The numbers of a set and the bit where reading ended, or the refusal's number.
 pub type Answer = Result<(Numbers, usize), u32>;
 
-/// The arrays that are lent, marked before each call; the last number stands past the array's end.
+/// By which kind's call an RBSP is read: what its first three bits name, and where they name none that of ALF.
+pub fn kind_of(first: Option<&u8>) -> usize {
+    let kind = first.map_or(0, |byte| byte >> 5);
+    if kind < 3 {
+        kind.into()
+    } else {
+        0
+    }
+}
+
+/// What is lent, marked before each call: a struct of each kind, a head with bytes after it, and the end.
 pub struct Lent {
-    set: Vec<i64>,
+    sets: [Struct; 3],
+    head: [u8; HEAD + 4],
     end: u64,
 }
 
 impl Lent {
+    /// The structs must be as large as the crate's, which have C's layout.
     pub fn new() -> Self {
+        let sets = [0, 1, 2].map(Struct::marked);
+        let sizes = [size_of::<Alf>(), size_of::<Lmcs>(), size_of::<Scaling>()];
+        assert!(sets.each_ref().map(Struct::size) == sizes, "{sizes:?}");
         Lent {
-            set: vec![MARK as i64; NUMBERS + 1],
+            sets,
+            head: [MARK as u8; HEAD + 4],
             end: MARK,
         }
     }
 
-    /// The array without the number past its end.
-    pub(super) fn set(&mut self) -> &mut [i64; NUMBERS] {
-        front(&mut self.set)
+    fn is_marked(&self, kind: usize) -> bool {
+        self.end == MARK && self.sets[kind].is_marked()
     }
 
-    pub(super) fn answer(&mut self, code: u32) -> Answer {
-        if code != 0 && self.end == MARK && self.set.iter().all(|&x| x == MARK as i64) {
+    /// A call's answer; after a refusal no byte of the struct and the end has changed.
+    fn answer(&mut self, kind: usize, code: u32) -> Answer {
+        if code != 0 && self.is_marked(kind) {
             return Err(code);
         }
-        let Lent { mut set, end } = std::mem::replace(self, Lent::new());
-        if code != 0 || set.pop() != Some(MARK as i64) {
+        let set = std::mem::replace(&mut self.sets[kind], Struct::marked(kind));
+        let end = std::mem::replace(&mut self.end, MARK);
+        match set.numbers() {
+            Some(numbers) if code == 0 => Ok((Numbers(numbers), end as usize)),
+            _ => Err(ARRAY_CHANGED + code),
+        }
+    }
+
+    fn head_answer(&mut self, code: u32) -> Answer {
+        let Lent { head, end, .. } = *self;
+        if code != 0 && end == MARK && head == [MARK as u8; HEAD + 4] {
+            return Err(code);
+        }
+        (self.head, self.end) = ([MARK as u8; HEAD + 4], MARK);
+        let (head, after) = head.split_at(HEAD);
+        if code != 0 || after != [MARK as u8; 4] {
             return Err(ARRAY_CHANGED + code);
         }
-        Ok((Numbers(set), end as usize))
+        Ok((Numbers(head.iter().map(|&byte| byte.into()).collect()), end as usize))
     }
 
-    pub fn parse_rbsp(&mut self, bytes: &[u8]) -> Answer {
-        let (set, end) = (front(&mut self.set), &mut self.end);
-        let code = unsafe { raw::aps_parse_rbsp(bytes.as_ptr(), bytes.len(), set, end) };
-        self.answer(code)
+    /// The set of an RBSP by the call of a kind.
+    pub fn parse_rbsp(&mut self, kind: usize, bytes: &[u8]) -> Answer {
+        let (from, len) = (bytes.as_ptr(), bytes.len());
+        let (set, end) = (self.sets[kind].pointer::<u8>(), &mut self.end);
+        let code = unsafe {
+            match kind {
+                0 => raw::aps_alf_parse_rbsp(from, len, set.cast(), end),
+                1 => raw::aps_lmcs_parse_rbsp(from, len, set.cast(), end),
+                _ => raw::aps_scaling_parse_rbsp(from, len, set.cast(), end),
+            }
+        };
+        self.answer(kind, code)
     }
 
-    pub fn rbsp_end(&mut self, bytes: &[u8]) -> Result<usize, u32> {
-        let code = unsafe { raw::aps_rbsp_end(bytes.as_ptr(), bytes.len(), &mut self.end) };
-        sized(code, std::mem::replace(&mut self.end, MARK))
+    /// The set of a unit by the call of a kind.
+    pub fn parse(&mut self, kind: usize, unit: &[u8], work: &mut [u8]) -> Answer {
+        let (from, len, to, room) = (unit.as_ptr(), unit.len(), work.as_mut_ptr(), work.len());
+        let (set, end) = (self.sets[kind].pointer::<u8>(), &mut self.end);
+        let code = unsafe {
+            match kind {
+                0 => raw::aps_alf_parse(from, len, to, room, set.cast(), end),
+                1 => raw::aps_lmcs_parse(from, len, to, room, set.cast(), end),
+                _ => raw::aps_scaling_parse(from, len, to, room, set.cast(), end),
+            }
+        };
+        self.answer(kind, code)
     }
 
-    /// The same by the record of each kind.
+    /// The set of a kind that is held for an id.
+    pub(super) fn lookup(&mut self, kind: usize, table: &[u8; TABLE_BYTES], id: u8) -> Result<Numbers, u32> {
+        let set = self.sets[kind].pointer::<u8>();
+        let code = unsafe {
+            match kind {
+                0 => raw::aps_alf_lookup(table, id, set.cast()),
+                1 => raw::aps_lmcs_lookup(table, id, set.cast()),
+                _ => raw::aps_scaling_lookup(table, id, set.cast()),
+            }
+        };
+        self.answer(kind, code).map(|(set, _)| set)
+    }
+
+    fn lent_head(&mut self) -> *mut Head {
+        black_box(self.head.as_mut_ptr()).cast()
+    }
+
+    /// The head of an RBSP's set.
+    pub fn head_of_rbsp(&mut self, bytes: &[u8]) -> Answer {
+        let head = self.lent_head();
+        let code = unsafe { raw::aps_head_parse_rbsp(bytes.as_ptr(), bytes.len(), head, &mut self.end) };
+        self.head_answer(code)
+    }
+
+    /// The head of a unit's set.
+    pub fn head_of_unit(&mut self, unit: &[u8], work: &mut [u8]) -> Answer {
+        let (head, to, room) = (self.lent_head(), work.as_mut_ptr(), work.len());
+        let code = unsafe { raw::aps_head_parse(unit.as_ptr(), unit.len(), to, room, head, &mut self.end) };
+        self.head_answer(code)
+    }
+
+    /// The head of the set held for a kind and an id.
+    pub(super) fn head_lookup(&mut self, table: &[u8; TABLE_BYTES], kind: u8, id: u8) -> Result<Numbers, u32> {
+        let head = self.lent_head();
+        let code = unsafe { raw::aps_head_lookup(table, kind, id, head) };
+        self.head_answer(code).map(|(head, _)| head)
+    }
+
+    /// The bit where reading an RBSP's set ended, by the record of a kind.
     pub fn kind_end(&mut self, kind: usize, bytes: &[u8]) -> Result<usize, u32> {
         let call = [raw::aps_alf_end, raw::aps_lmcs_end, raw::aps_scaling_end][kind];
         let code = unsafe { call(bytes.as_ptr(), bytes.len(), &mut self.end) };
         sized(code, std::mem::replace(&mut self.end, MARK))
-    }
-
-    pub fn unit_end(&mut self, unit: &[u8], work: &mut [u8]) -> Result<usize, u32> {
-        let (to, room) = (work.as_mut_ptr(), work.len());
-        let code = unsafe { raw::aps_unit_end(unit.as_ptr(), unit.len(), to, room, &mut self.end) };
-        sized(code, std::mem::replace(&mut self.end, MARK))
-    }
-
-    pub fn parse(&mut self, unit: &[u8], work: &mut [u8]) -> Answer {
-        let (to, room) = (work.as_mut_ptr(), work.len());
-        let (set, end) = (front(&mut self.set), &mut self.end);
-        let code = unsafe { raw::aps_parse(unit.as_ptr(), unit.len(), to, room, set, end) };
-        self.answer(code)
     }
 }
 
@@ -115,17 +196,40 @@ pub(super) fn sized(code: u32, len: u64) -> Result<usize, u32> {
     }
 }
 
-pub fn write(set: &[i64], out: &mut [u8]) -> Result<usize, u32> {
+/// A struct filled with the numbers and lent to a call, which may not change it.
+fn written(numbers: &[i64], call: impl FnOnce(*const u8, &mut u64) -> u32) -> Result<usize, u32> {
+    let mut set = Struct::of(numbers);
+    let before = set.clone();
     let mut len = MARK;
-    let code = unsafe { raw::aps_write(set.as_ptr(), set.len(), out.as_mut_ptr(), out.len(), &mut len) };
+    let code = call(set.pointer(), &mut len);
+    if set != before {
+        return Err(ARRAY_CHANGED + code);
+    }
     sized(code, len)
 }
 
-pub fn write_nal(set: &[i64], unit_type: u8, out: &mut [u8]) -> Result<usize, u32> {
-    let mut len = MARK;
-    let (numbers, room) = (set.len(), out.len());
-    let code = unsafe { raw::aps_write_nal(set.as_ptr(), numbers, unit_type, out.as_mut_ptr(), room, &mut len) };
-    sized(code, len)
+/// A set as an RBSP, by the call of its kind.
+pub fn write(numbers: &[i64], out: &mut [u8]) -> Result<usize, u32> {
+    let (to, room) = (out.as_mut_ptr(), out.len());
+    written(numbers, |set, len| unsafe {
+        match numbers[0] {
+            0 => raw::aps_alf_write(set.cast(), to, room, len),
+            1 => raw::aps_lmcs_write(set.cast(), to, room, len),
+            _ => raw::aps_scaling_write(set.cast(), to, room, len),
+        }
+    })
+}
+
+/// A set as a unit.
+pub fn write_nal(numbers: &[i64], unit_type: u8, out: &mut [u8]) -> Result<usize, u32> {
+    let (to, room) = (out.as_mut_ptr(), out.len());
+    written(numbers, |set, len| unsafe {
+        match numbers[0] {
+            0 => raw::aps_alf_write_nal(set.cast(), unit_type, to, room, len),
+            1 => raw::aps_lmcs_write_nal(set.cast(), unit_type, to, room, len),
+            _ => raw::aps_scaling_write_nal(set.cast(), unit_type, to, room, len),
+        }
+    })
 }
 
 pub fn rewrite(bytes: &[u8], out: &mut [u8]) -> Result<usize, u32> {

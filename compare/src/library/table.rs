@@ -17,6 +17,9 @@ pub enum Taken {
 /// A call that changed the table where it may not, or wrote past it: a number that is expected nowhere.
 const TABLE_CHANGED: u32 = 2000;
 
+/// A head that is not that of the set: a number that is expected nowhere.
+const HEAD_DIFFERS: u32 = 3000;
+
 /// The table's bytes, and after them some that no call may change.
 #[derive(Clone, PartialEq)]
 pub struct Table(Vec<u8>);
@@ -80,9 +83,18 @@ impl Table {
         }
     }
 
+    /// The set held for a kind and an id, by the call of its kind. The head that is looked up must be the set's, or get the same refusal;
+    /// a kind above 2 has only that.
     pub fn lookup(&self, lent: &mut Lent, kind: u8, id: u8) -> Result<Numbers, u32> {
-        let code = unsafe { raw::aps_lookup(self.bytes(), kind, id, lent.set()) };
-        lent.answer(code).map(|(set, _)| set)
+        let head = lent.head_lookup(self.bytes(), kind, id);
+        if kind > 2 {
+            return head;
+        }
+        let set = lent.lookup(kind.into(), self.bytes(), id);
+        if set.as_ref().map(Numbers::head) != head.as_ref().map(Numbers::head) {
+            return Err(HEAD_DIFFERS + head.err().unwrap_or(0));
+        }
+        set
     }
 
     /// The length of the list.

@@ -1,7 +1,9 @@
-//! Sets with one number changed, written into an output of some length: what the Rust writes.
+//! Sets with one field changed, by its index in the order of library/structs.rs, written into an output of some length: what the Rust writes,
+//! or 2 where the field can't hold the value or there is none.
 
 use crate::expected;
 use crate::h266::aps::{self, VvcApsPayload};
+use crate::library::structs::{types, Type};
 use crate::random::Random;
 use crate::sets::extended;
 use crate::sets::make::{Maker, Style, STYLES};
@@ -31,11 +33,19 @@ impl Change {
         format!("{}: {} {change}", self.name, hex(&self.rbsp))
     }
 
-    fn numbers(&self) -> Vec<i64> {
+    /// The set's numbers with the one changed.
+    fn numbers(&self) -> Result<Vec<i64>, u32> {
         let (numbers, _) = expected::sets::parse_rbsp(&self.rbsp).expect("a set to change");
         let mut set = numbers.0;
+        let kind = set[0];
+        let types = types(kind as usize).into_iter().map(Type::range);
+        let ranges: Vec<(i64, i64)> = [(kind, kind)].into_iter().chain(types).collect();
+        let (low, high) = *ranges.get(self.index).ok_or(2u32)?;
+        if self.value < low || self.value > high {
+            return Err(2);
+        }
         set[self.index] = self.value;
-        set
+        Ok(set)
     }
 
     pub fn answer(&self) -> String {
@@ -45,8 +55,14 @@ impl Change {
             Ok(n) => format!("{n} bytes {}", hex(&after[..n])),
             Err(e) => format!("refused {e}"),
         };
-        let rbsp = shown(expected::written::write(&set, &before));
-        let unit = shown(expected::written::write_nal(&set, 17, &before));
+        let [rbsp, unit] = match set {
+            Ok(set) => [
+                expected::written::write(&set, &before),
+                expected::written::write_nal(&set, 17, &before),
+            ],
+            Err(e) => [(Err(e), Vec::new()), (Err(e), Vec::new())],
+        }
+        .map(shown);
         format!("{}: {rbsp}, unit {unit}", self.name)
     }
 }
@@ -97,7 +113,7 @@ fn one(name: String, rbsp: &[u8], index: usize, value: i64, room: usize) -> Chan
     }
 }
 
-/// One set with each of these numbers changed.
+/// One set with each of these fields changed.
 fn each(before: &str, rbsp: &[u8], room: usize, changes: &[(&str, usize, i64)]) -> Vec<Change> {
     let changed = |&(what, index, value): &(&str, usize, i64)| one(format!("{before}{what}"), rbsp, index, value, room);
     changes.iter().map(changed).collect()
@@ -151,8 +167,6 @@ fn nothing_sent() -> Vec<Change> {
         ("a Cb magnitude", 1109, 1),
         ("a Cr sign", 1194, 1),
         ("a luma flag alone", 4, 1),
-        ("a number of LMCS", 1195, 1),
-        ("a number of scaling", 3121, 1),
     ];
     each("ALF, nothing sent, with ", &NOTHING, 100, &changes)
 }
@@ -178,19 +192,19 @@ fn filters() -> Vec<Change> {
 /// One bin, and what is inferred beside it.
 fn bins() -> Vec<Change> {
     let changes = [
-        ("a sign at 0", 1214, 1),
-        ("a codeword of 1", 1198, 1),
-        ("a codeword of 2", 1198, 2),
-        ("a bin outside", 1199, 1),
-        ("a sign outside", 1229, 1),
-        ("min 1", 1195, 1),
-        ("min 16", 1195, 16),
-        ("delta max 14", 1196, 14),
-        ("delta max 16", 1196, 16),
-        ("precision-1 14", 1197, 14),
-        ("precision-1 15", 1197, 15),
-        ("chroma delta without chroma", 1230, 1),
-        ("chroma sign without chroma", 1231, 1),
+        ("a sign at 0", 23, 1),
+        ("a codeword of 1", 7, 1),
+        ("a codeword of 2", 7, 2),
+        ("a bin outside", 8, 1),
+        ("a sign outside", 38, 1),
+        ("min 1", 4, 1),
+        ("min 16", 4, 16),
+        ("delta max 14", 5, 14),
+        ("delta max 16", 5, 16),
+        ("precision-1 14", 6, 14),
+        ("precision-1 15", 6, 15),
+        ("chroma delta without chroma", 39, 1),
+        ("chroma sign without chroma", 40, 1),
         ("chroma flag", 2, 1),
     ];
     each("LMCS, ", &ONE_BIN, 100, &changes)
@@ -199,18 +213,18 @@ fn bins() -> Vec<Change> {
 /// Copies, and what is not looked at.
 fn copies() -> Vec<Change> {
     let changes = [
-        ("an uncoded id not copied", 1232, 0),
-        ("an uncoded id predicted", 1260, 1),
-        ("an uncoded delta", 1288, 7),
-        ("a copied id predicted", 1262, 1),
-        ("a delta for id 2", 1290, 1),
-        ("a delta for id 8", 1296, 1),
-        ("a delta of 3 for id 5", 1293, 3),
-        ("a delta of 4 for id 5", 1293, 4),
-        ("a copied DC", 1329, 5),
-        ("a copied list", 1330 + 64 * 2, 5),
-        ("id 2 not copied", 1234, 0),
-        ("id 27 not copied", 1259, 0),
+        ("an uncoded id not copied", 4, 0),
+        ("an uncoded id predicted", 32, 1),
+        ("an uncoded delta", 60, 7),
+        ("a copied id predicted", 34, 1),
+        ("a delta for id 2", 62, 1),
+        ("a delta for id 8", 68, 1),
+        ("a delta of 3 for id 5", 65, 3),
+        ("a delta of 4 for id 5", 65, 4),
+        ("a copied DC", 101, 5),
+        ("a copied list", 102 + 64 * 2, 5),
+        ("id 2 not copied", 6, 0),
+        ("id 27 not copied", 31, 0),
         ("chroma flag", 2, 1),
     ];
     each("scaling, ", &COPIES, 100, &changes)
@@ -218,13 +232,13 @@ fn copies() -> Vec<Change> {
 
 /// Entries at and past their limits.
 fn entries() -> Vec<Change> {
-    let list = |id: usize, i: usize| 1330 + 64 * id + i;
+    let list = |id: usize, i: usize| 102 + 64 * id + i;
     let changes = [
         ("as it is", 0, 2),
-        ("DC 127", 1329, 127),
-        ("DC 128", 1329, 128),
-        ("DC -128", 1329, -128),
-        ("DC -129", 1329, -129),
+        ("DC 127", 101, 127),
+        ("DC 128", 101, 128),
+        ("DC -128", 101, -128),
+        ("DC -129", 101, -129),
         ("the smallest entry", list(2, 3), -2_147_483_648),
         ("the largest entry", list(2, 3), 2_147_483_647),
         ("an entry past the matrix of id 0", list(0, 4), 9),
@@ -233,6 +247,50 @@ fn entries() -> Vec<Change> {
         ("the first unread entry of id 26", list(26, 39), 9_999),
     ];
     each("scaling ", &lists(&[0, 2, 7, 26, 27], 227), 3_000, &changes)
+}
+
+/// Values that the field can't hold, flags of 2 and more among them, other kinds, and indexes past the last field.
+fn not_held() -> Vec<Change> {
+    let alf = [
+        ("kind 1", 0, 1),
+        ("id -1", 1, -1),
+        ("id 256", 1, 256),
+        ("a chroma flag of 2", 2, 2),
+        ("an extension flag of 255", 3, 255),
+        ("a luma flag of -1", 4, -1),
+        ("a luma count of -1", 9, -1),
+        ("a luma index of 256", 10, 256),
+        ("the last luma sign of 2", 634, 2),
+        ("the last Cr sign of 255", 1194, 255),
+        ("index 1195", 1195, 0),
+        ("index 65,535", 65_535, 0),
+    ];
+    let lmcs = [
+        ("kind 0", 0, 0),
+        ("id 256", 1, 256),
+        ("min -1", 4, -1),
+        ("a sign of 2", 23, 2),
+        ("a chroma delta of 256", 39, 256),
+        ("a chroma sign of 255", 40, 255),
+        ("index 41", 41, 0),
+    ];
+    let scaling = [
+        ("kind 3", 0, 3),
+        ("a copy flag of 2", 4, 2),
+        ("the last prediction flag of 255", 59, 255),
+        ("a delta of -1", 60, -1),
+        ("a DC of 2,147,483,648", 88, 2_147_483_648),
+        ("a last entry of -2,147,483,649", 1893, -2_147_483_649),
+        ("index 1894", 1894, 0),
+    ];
+    let sets = [
+        ("ALF, ", &NOTHING[..], &alf[..]),
+        ("LMCS, ", &ONE_BIN, &lmcs),
+        ("scaling, ", &COPIES, &scaling),
+    ];
+    sets.into_iter()
+        .flat_map(|(before, rbsp, changes)| each(before, rbsp, 100, changes))
+        .collect()
 }
 
 /// Sets of every kind and style into outputs around the bytes due.
@@ -255,8 +313,17 @@ fn rooms() -> Vec<Change> {
 }
 
 pub fn sample() -> Vec<Change> {
-    [heads(), nothing_sent(), filters(), bins(), copies(), entries(), rooms()]
-        .into_iter()
-        .flatten()
-        .collect()
+    [
+        heads(),
+        nothing_sent(),
+        filters(),
+        bins(),
+        copies(),
+        entries(),
+        not_held(),
+        rooms(),
+    ]
+    .into_iter()
+    .flatten()
+    .collect()
 }

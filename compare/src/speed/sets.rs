@@ -4,11 +4,11 @@ use std::hint::black_box;
 use std::time::Instant;
 
 use super::{time, Run, Time};
-use crate::h266::aps::{self, parse_aps_rbsp, write_aps};
+use crate::h266::aps::{self, parse_aps_rbsp, write_aps, VvcAps};
 use crate::random::Random;
 use crate::rust_calls;
 use crate::sets::make::{Maker, Style};
-use kendwyra::raw;
+use kendwyra::{raw, Alf, Head, Lmcs, Scaling};
 
 /// Small, typical and full sets of the three kinds: one that is repeated, and of the last two sizes as many as are read in turn.
 pub struct Input {
@@ -76,8 +76,10 @@ fn calls_in_turn<T: AsRef<[u8]>>(sets: &[T], mut call: impl FnMut(&[u8]) -> u64)
 
 type End = unsafe extern "C" fn(*const u8, usize, &mut u64) -> u32;
 type Rewrite = unsafe extern "C" fn(*const u8, usize, *mut u8, usize, &mut u64) -> u32;
+pub type ParseRbsp<T> = unsafe extern "C" fn(*const u8, usize, *mut T, &mut u64) -> u32;
+type Write<T> = unsafe extern "C" fn(*const T, *mut u8, usize, &mut u64) -> u32;
 
-/// All rows of an input: its head alone, the record of its kind read, and that written again.
+/// All rows of an input: its head alone, the record of its kind read, that written again, a struct filled, and a struct written.
 pub fn rows(input: &Input) -> Vec<Time> {
     let kind = usize::from(input.one[0] >> 5);
     let mut out = Vec::new();
@@ -88,11 +90,20 @@ pub fn rows(input: &Input) -> Vec<Time> {
             raw::aps_lmcs_rewrite,
             raw::aps_scaling_rewrite,
         ][kind];
-        out.push(read(format!("{name}, its end"), sets, raw::aps_rbsp_end));
-        let own = read(format!("{name}, read"), sets, own);
+        let mut head = Head::default();
+        let head = |from, len, end: &mut u64| unsafe { raw::aps_head_parse_rbsp(from, len, &mut head, end) };
+        out.push(read(format!("{name}, its head"), sets, head));
+        let own = read(format!("{name}, read"), sets, |from, len, end: &mut u64| unsafe {
+            own(from, len, end)
+        });
         let written = write(name, sets, &own, rewrite);
         out.push(own);
         out.extend(written);
+        out.extend(match kind {
+            0 => structs::<Alf>(name, sets, raw::aps_alf_parse_rbsp, raw::aps_alf_write),
+            1 => structs::<Lmcs>(name, sets, raw::aps_lmcs_parse_rbsp, raw::aps_lmcs_write),
+            _ => structs::<Scaling>(name, sets, raw::aps_scaling_parse_rbsp, raw::aps_scaling_write),
+        });
     };
     times(&format!("{}, {} bytes", input.name, input.one.len()), &[&input.one]);
     if !input.in_turn.is_empty() {
@@ -102,10 +113,9 @@ pub fn rows(input: &Input) -> Vec<Time> {
     out
 }
 
-/// The set read, and nothing handed over but whether there is one.
-fn read(name: String, sets: &[&[u8]], library: End) -> Time {
+/// The set read; the Rust makes its record and drops it, whatever the library's call hands over.
+fn read(name: String, sets: &[&[u8]], mut library: impl FnMut(*const u8, usize, &mut u64) -> u32) -> Time {
     let rust = black_box(rust_calls::rbsp_end as extern "C" fn(*const u8, usize) -> u32);
-    let library = black_box(library);
     time(
         name,
         [
@@ -113,10 +123,50 @@ fn read(name: String, sets: &[&[u8]], library: End) -> Time {
             &mut || calls_in_turn(sets, |b| rust(b.as_ptr(), b.len()).into()),
             &mut || {
                 let mut end = 0;
-                calls_in_turn(sets, |b| unsafe { library(b.as_ptr(), b.len(), &mut end).into() })
+                calls_in_turn(sets, |b| library(b.as_ptr(), b.len(), &mut end).into())
             },
         ],
     )
+}
+
+/// The set read into a struct, and written from one that stands ready: of the Rust a record that stands ready.
+fn structs<T: Default>(name: &str, sets: &[&[u8]], parse_rbsp: ParseRbsp<T>, write: Write<T>) -> [Time; 2] {
+    let mut set = T::default();
+    let filled = read(
+        format!("{name}, read into a struct"),
+        sets,
+        |from, len, end: &mut u64| unsafe { parse_rbsp(from, len, black_box(&mut set), end) },
+    );
+    let ready = |b: &&[u8]| {
+        let mut set = T::default();
+        let code = unsafe { parse_rbsp(b.as_ptr(), b.len(), &mut set, &mut 0) };
+        assert!(code == 0, "a set that the Rust wrote");
+        (parse_aps_rbsp(b).expect("a set that the Rust wrote"), set)
+    };
+    let ready: Vec<(VvcAps, T)> = sets.iter().map(ready).collect();
+    let rust = black_box(rust_calls::write as extern "C" fn(&VvcAps, *mut u8, usize) -> u32);
+    let mut out = vec![0; 4_000];
+    let room = out.len();
+    let to: *mut u8 = out.as_mut_ptr();
+    let in_turn = |write: &mut dyn FnMut(&(VvcAps, T)) -> u64| {
+        let mut next = ready.iter().cycle();
+        calls_in_turn(sets, |_| next.next().map_or(0, |set| write(black_box(set))))
+    };
+    let written = time(
+        format!("{name}, written from a struct"),
+        [
+            &mut || in_turn(&mut |(record, _)| write_aps(record).map_or(0, |w| w.len() as u64)),
+            &mut || in_turn(&mut |(record, _)| rust(record, to, room).into()),
+            &mut || {
+                let mut len = 0;
+                in_turn(&mut |(_, set)| unsafe {
+                    write(set, to, room, &mut len);
+                    len
+                })
+            },
+        ],
+    );
+    [filled, written]
 }
 
 /// The set read and written again, and the time of the writing alone: of the library what is left of that without the reading, of the

@@ -3,15 +3,14 @@
 use std::hint::black_box;
 use std::time::Instant;
 
-use super::sets::{calls, inputs};
+use super::sets::{calls, inputs, ParseRbsp};
 use super::{least, Run};
 use crate::expected::table::names;
 use crate::h266::aps;
 use crate::nal;
 use crate::random::Random;
 use crate::sets::make::{Maker, Style};
-use kendwyra::sets::NUMBERS;
-use kendwyra::{raw, TABLE_BYTES};
+use kendwyra::{raw, Alf, Head, Lmcs, Scaling, TABLE_BYTES};
 
 /// One row, in nanoseconds for a call.
 pub struct Row {
@@ -187,13 +186,14 @@ fn full_table() -> Vec<Row> {
 
 /// The list of 20 full sets, against these read, and against these read and written.
 fn cuts(table: &Bytes, rbsps: &[Vec<u8>], to: *mut u8, room: usize) -> Vec<Row> {
-    let each = |call: &dyn Fn(&[u8]) -> u32| once(|| rbsps.iter().map(|b| call(black_box(b))).sum());
+    let mut head = Head::default();
+    let each = |call: &mut dyn FnMut(&[u8]) -> u32| once(|| rbsps.iter().map(|b| call(black_box(b))).sum());
     let [list, read, rewritten] = least(
         "a cut of 20 full sets",
         [
             &mut || once(|| unsafe { raw::aps_write_list(black_box(table), to, room, &mut 0) }),
-            &mut || each(&|b| unsafe { raw::aps_rbsp_end(b.as_ptr(), b.len(), &mut 0) }),
-            &mut || each(&|b| unsafe { raw::aps_rewrite(b.as_ptr(), b.len(), to, room, &mut 0) }),
+            &mut || each(&mut |b| unsafe { raw::aps_head_parse_rbsp(b.as_ptr(), b.len(), &mut head, &mut 0) }),
+            &mut || each(&mut |b| unsafe { raw::aps_rewrite(b.as_ptr(), b.len(), to, room, &mut 0) }),
         ],
     );
     let against = |name: &str, other| Row {
@@ -208,31 +208,53 @@ fn cuts(table: &Bytes, rbsps: &[Vec<u8>], to: *mut u8, room: usize) -> Vec<Row> 
     ]
 }
 
-/// A set looked up, against its RBSP read; both hand over all numbers.
+type Lookup<T> = unsafe extern "C" fn(&Bytes, u8, *mut T) -> u32;
+
+/// A set looked up, against its RBSP read; both fill a struct.
 fn lookup(table: &Bytes, name: &str, (kind, id): (u8, u8), rbsp: &[u8]) -> Row {
     let name = format!("lookup of a full {name} set, against its RBSP read");
-    let (mut looked_up, mut parsed) = ([0; NUMBERS], [0; NUMBERS]);
-    let [looked, read] = least(
-        &name,
-        [
-            &mut || {
-                calls(rbsp, |_| unsafe {
-                    raw::aps_lookup(black_box(table), kind, id, &mut looked_up).into()
-                })
-            },
-            &mut || {
-                calls(rbsp, |b| unsafe {
-                    raw::aps_parse_rbsp(b.as_ptr(), b.len(), &mut parsed, &mut 0).into()
-                })
-            },
-        ],
-    );
+    let [looked, read] = match kind {
+        0 => lookup_of::<Alf>(&name, table, id, rbsp, raw::aps_alf_lookup, raw::aps_alf_parse_rbsp),
+        1 => lookup_of::<Lmcs>(&name, table, id, rbsp, raw::aps_lmcs_lookup, raw::aps_lmcs_parse_rbsp),
+        _ => lookup_of::<Scaling>(
+            &name,
+            table,
+            id,
+            rbsp,
+            raw::aps_scaling_lookup,
+            raw::aps_scaling_parse_rbsp,
+        ),
+    };
     Row {
         name,
         library: looked,
         against: Some(read),
         bytes: None,
     }
+}
+
+fn lookup_of<T: Default + PartialEq>(
+    name: &str,
+    table: &Bytes,
+    id: u8,
+    rbsp: &[u8],
+    lookup: Lookup<T>,
+    parse_rbsp: ParseRbsp<T>,
+) -> [f64; 2] {
+    let (mut looked_up, mut parsed) = (T::default(), T::default());
+    let times = least(
+        name,
+        [
+            &mut || calls(rbsp, |_| unsafe { lookup(black_box(table), id, &mut looked_up).into() }),
+            &mut || {
+                calls(rbsp, |b| unsafe {
+                    parse_rbsp(b.as_ptr(), b.len(), &mut parsed, &mut 0).into()
+                })
+            },
+        ],
+    );
+    assert!(looked_up == parsed, "{name}: the sets differ");
+    times
 }
 
 fn empty_list() -> Row {

@@ -9,7 +9,8 @@ use Rattle.aps.specs.Codec.{via}
 use Rattle.aps.specs.ApsSyntax.{ApsData, aps_syntax, aps, from_aps, of_alf, of_lmcs, of_scaling, payload_of, number_of, zero_alf, zero_lmcs, zero_scaling}
 use Rattle.aps.specs.Rbsp.{rbsp_bits, rbsp_bytes}
 use Rattle.aps.specs.ScalingSyntax.{look}
-use Rattle.aps.specs.Writing.{rbsp_due, bytes_due, alf_set, lmcs_set, scaling_set, write_aps}
+use Rattle.aps.specs.Unit.{is_aps}
+use Rattle.aps.specs.Writing.{rbsp_due, bytes_due, alf_set, lmcs_set, scaling_set, unit_of, write_aps, write_aps_nal}
 use Rattle.aps.specs.Inner.{assembled, Bare}
 use Rattle.aps.specs.declared.alf.VvcAlfData.{VvcAlfData}
 use Rattle.aps.specs.declared.lmcs.VvcLmcsData.{VvcLmcsData}
@@ -88,7 +89,16 @@ due-sent : (a : VvcAps) → bytes_due a ≡ due (from_aps a)
 unfolding bytes_due rbsp_due rbsp_bytes rbsp_bits aps via from_aps
 due-sent a = refl
 
--- sets of which the same is sent are written alike
+-- of sets of which the same is sent the same bytes are due
+due-alike : (a b : VvcAps) → from_aps a ≡ from_aps b → bytes_due a ≡ bytes_due b
+due-alike a b e = due-sent a ∙ ap due e ∙ sym (due-sent b)
+
+-- they are written alike
 pub alike : (a b : VvcAps) (out : List ℕ) → from_aps a ≡ from_aps b → write_aps a out ≡ write_aps b out
 unfolding write_aps
-alike a b out e = ap (λ (o : Outcome (List ℕ)). o then λ bytes n. put_bytes out bytes) (due-sent a ∙ ap due e ∙ sym (due-sent b))
+alike a b out e = ap (λ (o : Outcome (List ℕ)). o then λ bytes n. put_bytes out bytes) (due-alike a b e)
+
+-- as units too
+pub alike_nal : (a b : VvcAps) (type : ℕ) (out : List ℕ) → from_aps a ≡ from_aps b → write_aps_nal a type out ≡ write_aps_nal b type out
+unfolding write_aps_nal
+alike_nal a b type out e = ap (λ (o : Outcome (List ℕ)). cond (is_aps type) (o then λ bytes n. put_bytes out (unit_of type bytes)) (refused 2)) (due-alike a b e)

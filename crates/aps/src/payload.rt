@@ -1,11 +1,12 @@
 // The payload of a set of one kind: how it is read and written, and the set that it makes.
-ghost use Rattle.std.specs.Prelude.{◌≡◌, Bool, List, ℕ, ◌+◌, ◌≤◌};
+ghost use Rattle.std.specs.Prelude.{◌≡◌, Bool, List, ℕ, ◌+◌, ◌≤◌, length};
 ghost use Rattle.aps.specs.ApsSyntax.{payload, number_of, from_aps};
 ghost use Rattle.aps.specs.ApsSyntax as Syntax;
 ghost use Rattle.aps.specs.Kinds.{largest_id};
 ghost use Rattle.bitstream.specs.Outcome.{left, map_outcome, outcome_written};
-ghost use Rattle.aps.specs.Writing.{write_aps};
-ghost use Rattle.aps.specs.Payloads.{alike};
+ghost use Rattle.aps.specs.Unit.{parse_aps, work_after};
+ghost use Rattle.aps.specs.Writing.{write_aps, write_aps_nal};
+ghost use Rattle.aps.specs.Payloads.{alike, alike_nal};
 ghost use Rattle.aps.specs.Inner.{Bare, Passes};
 ghost use Rattle.aps.specs.Rbsp.{read_rbsp, parse_aps_rbsp};
 ghost use Rattle.aps.specs.Reading.{outcome_reading, head_of, part_by};
@@ -19,7 +20,8 @@ use crate::aps::{ApsHead, ApsKind, Reading, open_rbsp};
 use crate::lmcs::VvcLmcsData;
 use crate::opened::Opened;
 use crate::scaling_list::VvcScalingListData;
-use crate::write::{copy_out, put_rbsp};
+use crate::unit::{is_aps, rbsp_to_work};
+use crate::write::{copy_out, put_rbsp, write_nal};
 use crate::writer::Writer;
 use bitstream::Refusal;
 
@@ -38,6 +40,11 @@ pub trait Payload: Copy {
     fn parse_rbsp(bytes: &[u8]) -> Result<Reading<ApsOf<Self>>, Refusal>
         ensures { outcome_reading result ≡ map_outcome (part_by part) (parse_aps_rbsp bytes.now) };
 
+    // The same out of a unit, its RBSP put at the start of the work buffer.
+    fn parse_unit(unit: &[u8], work: &mut [u8]) -> Result<Reading<ApsOf<Self>>, Refusal>
+        ensures answer { outcome_reading result ≡ map_outcome (part_by part) (parse_aps unit.now (length work.old)) }
+        ensures work { work.new ≡ work_after unit.now work.old };
+
     // A set as an RBSP. Not by a head: that has the kind too, which the type says.
     fn write_rbsp(
         &self,
@@ -49,9 +56,25 @@ pub trait Payload: Copy {
         ensures answer { outcome_written result out.new ≡ write_aps (alone id chroma extension self.now) out.old }
         ensures bytes { out.new ≡ left out.old (write_aps (alone id chroma extension self.now) out.old) };
 
+    // A set as a unit: its header, then the RBSP with escapes put in.
+    fn write_nal(
+        &self,
+        id: u8,
+        chroma: bool,
+        extension: bool,
+        unit_type: u8,
+        out: &mut [u8],
+    ) -> Result<usize, Refusal>
+        ensures answer { outcome_written result out.new ≡ write_aps_nal (alone id chroma extension self.now) unit_type out.old }
+        ensures bytes { out.new ≡ left out.old (write_aps_nal (alone id chroma extension self.now) unit_type out.old) };
+
     // Sets of its kind with the same payload are written alike.
     ghost alike: { (a : VvcAps) (out : List ℕ) → a.kind ≡ KIND
         → write_aps (alone a.aps_adaptation_parameter_set_id a.aps_chroma_present_flag a.aps_extension_flag (part a)) out ≡ write_aps a out };
+
+    // As a unit too.
+    ghost alike_nal: { (a : VvcAps) (type : ℕ) (out : List ℕ) → a.kind ≡ KIND
+        → write_aps_nal (alone a.aps_adaptation_parameter_set_id a.aps_chroma_present_flag a.aps_extension_flag (part a)) type out ≡ write_aps_nal a type out };
 }
 
 // How it is read and written, field by field; by functions of each kind's own, since each has a syntax of its own in H.266.
@@ -131,6 +154,11 @@ impl<P: Coded> Payload for P {
         })
     }
 
+    fn parse_unit(unit: &[u8], work: &mut [u8]) -> Result<Reading<ApsOf<Self>>, Refusal> {
+        let n = rbsp_to_work(unit, work)?;
+        Self::parse_rbsp(&work[..n])
+    }
+
     fn write_rbsp(
         &self,
         id: u8,
@@ -143,7 +171,25 @@ impl<P: Coded> Payload for P {
         copy_out(writer.bytes(), out)
     }
 
+    fn write_nal(
+        &self,
+        id: u8,
+        chroma: bool,
+        extension: bool,
+        unit_type: u8,
+        out: &mut [u8],
+    ) -> Result<usize, Refusal> {
+        if !is_aps(unit_type) {
+            return Err(Refusal::InvalidData);
+        }
+        let mut rbsp = Writer::new();
+        put_rbsp(&mut rbsp, id, chroma, extension, self)?;
+        write_nal(rbsp.bytes(), unit_type, out)
+    }
+
     ghost alike = { λ a out e. alike _ a out (P.sent_part a e) };
+
+    ghost alike_nal = { λ a type out e. alike_nal _ a type out (P.sent_part a e) };
 }
 
 // A set of which one kind's payload is kept: its head and that payload, none where the set is of another kind.

@@ -32,7 +32,7 @@ fn admit(unit: &[u8], room: usize) -> Result<(), Refusal>
 }
 
 // The RBSP of a unit that is admitted, put at the start of the work buffer: how many bytes it has.
-fn rbsp_to_work(unit: &[u8], work: &mut [u8]) -> Result<usize, Refusal>
+pub(crate) fn rbsp_to_work(unit: &[u8], work: &mut [u8]) -> Result<usize, Refusal>
     ensures answer { Unwrapped result (parse_aps unit.now (length work.old)) work.new }
     ensures work { work.new ≡ work_after unit.now work.old }
 {

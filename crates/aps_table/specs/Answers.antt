@@ -4,7 +4,8 @@ use Rattle.bitstream.specs.Outcome.{number}
 use Rattle.bitstream.specs.declared.Refusal.{Refusal}
 use Rattle.aps.specs.declared.aps.ApsHead.{ApsHead}
 use Rattle.aps.specs.declared.aps.VvcAps.{VvcAps}
-use Rattle.aps.specs.Reading.{head_of}
+use Rattle.aps.specs.declared.payload.ApsOf.{ApsOf}
+use Rattle.aps.specs.Reading.{head_of, part_by}
 use Rattle.aps_table.specs.Places.{Looked, found, missing}
 use Rattle.aps_table.specs.Calls.{Answer, counted, accepted, passed, refusal}
 use Rattle.aps_table.specs.declared.table.Counts.{Counts}
@@ -32,3 +33,13 @@ head_looked (missing n) = Err n
 abbrev pub head_answer : Result ApsHead Refusal → Result ApsHead ℕ
 head_answer (Ok h) = Ok h
 head_answer (Err e) = Err (number e)
+
+module _ {P : Type 0} where
+  -- the set with one part of it alone
+  abbrev pub payload_looked : (VvcAps → P) → Looked → Result (ApsOf P) ℕ
+  payload_looked part (found a) = Ok (part_by part a)
+  payload_looked part (missing n) = Err n
+
+  abbrev pub payload_answer : Result (ApsOf P) Refusal → Result (ApsOf P) ℕ
+  payload_answer (Ok a) = Ok a
+  payload_answer (Err e) = Err (number e)

@@ -108,6 +108,17 @@ fn is_bare(table: &Table) -> bool
     true
 }
 
+// The list out of its buffer. A call of its own: inlined, the buffer was cleared before the table was looked at.
+#[inline(never)]
+fn write_whole(table: &Table, out: &mut [u8]) -> Result<usize, Refusal>
+    ensures answer { outcome_written result out.new ≡ write_list table.now out.old }
+    ensures bytes { out.new ≡ left out.old (write_list table.now out.old) }
+{
+    let mut list = CutList::new();
+    list.put_all(table)?;
+    copy_out(list.bytes(), out)
+}
+
 // The list: 3; 2; 5. That of a table without a set needs no buffer.
 pub fn write_list(table: &Table, out: &mut [u8]) -> Result<usize, Refusal>
     ensures answer { outcome_written result out.new ≡ write_list table.now out.old }
@@ -116,7 +127,5 @@ pub fn write_list(table: &Table, out: &mut [u8]) -> Result<usize, Refusal>
     if is_bare(table) {
         return Ok(0);
     }
-    let mut list = CutList::new();
-    list.put_all(table)?;
-    copy_out(list.bytes(), out)
+    write_whole(table, out)
 }

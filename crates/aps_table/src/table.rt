@@ -7,12 +7,13 @@ ghost use Rattle.aps_table.specs.Inner.{splits, units_of, Owned};
 ghost use Rattle.aps_table.specs.Places.{found_in, held, looked_up};
 ghost use Rattle.aps_table.specs.Taking.{Verdict, is_passed, take_units, work_units, tally, no_units, count as count_of};
 ghost use Rattle.aps_table.specs.Calls.{stream, alone, single, table_after, answer_to, work_after_stream};
-ghost use Rattle.aps_table.specs.Answers.{unit_answer, stream_answer, lookup_answer, head_answer, head_looked};
+ghost use Rattle.aps_table.specs.Answers.{unit_answer, stream_answer, lookup_answer, head_answer, head_looked, payload_answer, payload_looked};
 
 use crate::places::{Place, Table};
 use crate::split::Cursor;
 use aps::aps::{ApsHead, Reading, VvcAps, parse_aps_head, parse_aps_rbsp};
 use aps::nal_header::parse_nal_header;
+use aps::payload::{ApsOf, Payload};
 use aps::unit::{is_aps, parse_unit_head};
 use bitstream::{Input, Refusal};
 
@@ -170,4 +171,27 @@ pub fn lookup_head(table: &Table, kind: u8, id: u8) -> Result<ApsHead, Refusal>
     ensures { head_answer result ≡ head_looked (looked_up table.now kind id) }
 {
     head_held(table, Place::new(kind, id).ok_or(Refusal::InvalidData)?)
+}
+
+// Of the set of a place its head and one kind's payload, or 6.
+fn payload_held<P: Payload>(table: &Table, place: Place) -> Result<ApsOf<P>, Refusal>
+    ensures { payload_answer result ≡ payload_looked P.part (found_in (held table.now (number_of place.kind) place.id)) }
+{
+    if let Ok(reading) = P::parse_rbsp(place.bytes(table)) {
+        let set = reading.value;
+        if (set.head.kind, set.head.aps_adaptation_parameter_set_id) == (place.kind, place.id) {
+            return Ok(set);
+        }
+    }
+    Err(Refusal::EmptyPlace)
+}
+
+// The set held for an id of one kind, by its payload alone: 2; 6.
+pub fn lookup_of<P: Payload>(table: &Table, id: u8) -> Result<ApsOf<P>, Refusal>
+    ensures { payload_answer result ≡ payload_looked P.part (looked_up table.now (number_of P.KIND) id) }
+{
+    payload_held(
+        table,
+        Place::new(u8::from(P::KIND), id).ok_or(Refusal::InvalidData)?,
+    )
 }

@@ -1,14 +1,15 @@
-// Reads sets from standard input, a name and an RBSP in hexadecimal digits to a line, and writes each name with the answer: the set as numbers, or, with one number changed, its bytes.
+// Reads sets from standard input, a name and an RBSP in hexadecimal digits to a line, and writes each name with the answer: the set's fields, or, with one field changed, its bytes.
 #![tactic(auto)]
 
+mod order;
 mod print;
 mod write;
 
 ghost use Rattle.std.specs.Prelude.{◌<◌, ◌≤◌, length};
 ghost use Rattle.io.specs.Counts.{IsPrefixLen};
 
-use crate::print::{number, runs, text};
-use aps_c::{NUMBERS, aps_parse_rbsp};
+use crate::print::{number, refused, runs, text};
+use aps::aps::parse_aps_rbsp;
 
 // The value of a hexadecimal digit; std's to_digit gives none for another character, which has some value here.
 fn digit(c: u8) -> u8
@@ -40,18 +41,14 @@ fn find(s: &[u8], at: usize, c: u8) -> usize
         .map_or(s.len(), |i| at + i)
 }
 
-// A number and lent arrays in place of a Result: aps_c answers as C's calls do.
 fn answer(rbsp: &[u8]) {
-    let mut set = [0i64; NUMBERS];
-    let mut end = [0u64; 1];
-    let code = aps_parse_rbsp(rbsp, &mut set, &mut end);
-    if code == 0 {
-        text(b"bit ");
-        number(end[0]);
-        runs(&set);
-    } else {
-        text(b"refused ");
-        number(code as u64);
+    match parse_aps_rbsp(rbsp) {
+        Ok(mut reading) => {
+            text(b"bit ");
+            number(reading.end as u64);
+            runs(&mut reading.value);
+        }
+        Err(why) => refused(why),
     }
     text(b"\n");
 }
@@ -68,7 +65,7 @@ fn decoded(digits: &[u8], changed: &[u8]) {
     write::answer(&rbsp[..n], &bytes[..m]);
 }
 
-// A name, a colon, a space and digits; then a change of one number and the room to write into, or nothing.
+// A name, a colon, a space and digits; then a change of one field and the room to write into, or nothing.
 fn line(s: &[u8]) {
     let colon = find(s, 0, b':');
     if s.len() - colon < 2 {

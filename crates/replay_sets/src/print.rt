@@ -1,6 +1,8 @@
-// Words, numbers and bytes to standard output.
+// Words, numbers, bytes and sets to standard output.
 // The few calls that `boundaries` has too: a crate for both would be longer than they are.
-use aps_c::NUMBERS;
+use crate::order::{Field, Visitor, visit};
+use aps::aps::VvcAps;
+use bitstream::Refusal;
 
 // By the toolchain's crate `io`, whose calls answer no error: std's `println!` gives a Result, which every caller here would have to hand on.
 pub fn text(s: &[u8]) {
@@ -11,10 +13,15 @@ pub fn number(n: u64) {
     io::print_decimal(1, n);
 }
 
-fn item(i: usize, first: bool, v: i64) {
+pub fn refused(why: Refusal) {
+    text(b"refused ");
+    number(u64::from(u32::from(why)));
+}
+
+fn item(index: u64, first: bool, v: i64) {
     if first {
         text(b" [");
-        number(i as u64);
+        number(index);
         text(b"]");
     }
     if v < 0 {
@@ -25,15 +32,31 @@ fn item(i: usize, first: bool, v: i64) {
     number(v.unsigned_abs());
 }
 
-// The numbers that are not 0, after the index of the first in a row.
-pub fn runs(numbers: &[i64; NUMBERS]) {
-    let mut first = true;
-    for (i, &v) in numbers.iter().enumerate() {
+// The index of the next field, and whether the one before it was 0.
+#[derive(Drop)]
+struct Printer {
+    index: u64,
+    first: bool,
+}
+
+impl Visitor for Printer {
+    fn one<F: Field>(&mut self, field: &mut F) {
+        let v = field.number();
         if v != 0 {
-            item(i, first, v);
+            item(self.index, self.first, v);
         }
-        first = v == 0;
+        self.first = v == 0;
+        self.index = self.index.saturating_add(1);
     }
+}
+
+// The fields that are not 0, after the index of the first in a row.
+pub fn runs(set: &mut VvcAps) {
+    let mut printer = Printer {
+        index: 0,
+        first: true,
+    };
+    visit(set, &mut printer);
 }
 
 // In capitals, where io's `print_hex` has small letters.

@@ -1,36 +1,37 @@
-// A set with one of its numbers changed, written as an RBSP and as a unit.
-use crate::print::{hexadecimal, number, text};
-use aps_c::{NUMBERS, aps_parse_rbsp, aps_write, aps_write_nal};
+// A set with one of its fields changed, written as an RBSP and as a unit.
+use crate::order::{Field, Visitor, visit};
+use crate::print::{hexadecimal, number, refused, text};
+use aps::aps::{VvcAps, parse_aps_rbsp};
+use aps::write::{write_aps, write_aps_nal};
+use bitstream::Refusal;
 
-// The bytes of an answer, or the refusal's number, as C's calls give them.
-fn answered(code: u32, out: &[u8], len: u64) {
-    if code == 0 {
-        number(len);
-        text(b" bytes ");
-        hexadecimal(&out[..(len as usize).min(out.len())]);
-    } else {
-        text(b"refused ");
-        number(code as u64);
+// The bytes that were written, or the refusal's number.
+fn answered(size: Result<usize, Refusal>, out: &[u8]) {
+    match size {
+        Ok(n) => {
+            number(n as u64);
+            text(b" bytes ");
+            hexadecimal(&out[..n.min(out.len())]);
+        }
+        Err(why) => refused(why),
     }
 }
 
-fn both(set: &[i64], out: &mut [u8]) {
-    let mut len = [0u64; 1];
-    let code = aps_write(set, out, &mut len);
-    answered(code, out, len[0]);
+fn both(set: &VvcAps, out: &mut [u8]) {
+    let size = write_aps(set, out);
+    answered(size, out);
     text(b", unit ");
-    let code = aps_write_nal(set, 17, out, &mut len);
-    answered(code, out, len[0]);
-    text(b"\n");
+    let size = write_aps_nal(set, 17, out);
+    answered(size, out);
 }
 
-fn within(set: &[i64], room: usize) {
+fn within(set: &VvcAps, room: usize) {
     let mut out = io::buffer();
     let n = room.min(out.len());
     both(set, &mut out[..n]);
 }
 
-// A number of a set to change, and the room of the output.
+// A field of a set to change, by its index, and the room of the output.
 #[derive(Clone, Copy)]
 struct Change {
     index: usize,
@@ -53,18 +54,62 @@ impl Change {
     }
 }
 
-fn changed(rbsp: &[u8], change: Change) {
-    let mut set = [0i64; NUMBERS];
-    let mut end = [0u64; 1];
-    aps_parse_rbsp(rbsp, &mut set, &mut end);
-    if let Some(number) = set.get_mut(change.index) {
-        *number = change.value;
+// How many fields come before the one to change, none once it is passed, and whether it holds the value.
+#[derive(Drop)]
+struct Setter {
+    before: Option<usize>,
+    value: i64,
+    holds: bool,
+}
+
+impl Setter {
+    fn set<F: Field>(&mut self, field: &mut F) {
+        if let Some(changed) = field.with(self.value) {
+            *field = changed;
+            self.holds = true;
+        }
     }
-    within(&set, change.room);
+}
+
+impl Visitor for Setter {
+    fn one<F: Field>(&mut self, field: &mut F) {
+        if self.before == Some(0) {
+            self.set(field);
+        }
+        self.before = self.before.and_then(|n| n.checked_sub(1));
+    }
+}
+
+// 2: the field can't hold the value, or there is none with this index.
+fn changed(rbsp: &[u8], change: Change) -> Result<VvcAps, Refusal> {
+    let mut set = parse_aps_rbsp(rbsp)?.value;
+    let mut setter = Setter {
+        before: Some(change.index),
+        value: change.value,
+        holds: false,
+    };
+    visit(&mut set, &mut setter);
+    if setter.holds {
+        Ok(set)
+    } else {
+        Err(Refusal::InvalidData)
+    }
+}
+
+fn written(rbsp: &[u8], change: Change) {
+    match changed(rbsp, change) {
+        Ok(set) => within(&set, change.room),
+        Err(why) => {
+            refused(why);
+            text(b", unit ");
+            refused(why);
+        }
+    }
+    text(b"\n");
 }
 
 pub fn answer(rbsp: &[u8], bytes: &[u8]) {
     if let Some(change) = Change::read(bytes) {
-        changed(rbsp, change);
+        written(rbsp, change);
     }
 }

@@ -1,8 +1,15 @@
 //! `lmcs_data()`, H.266 7.3.2.19.
 
-/// Luma mapping with chroma scaling; bins outside min to max are 0.
+/// An LMCS set: luma mapping with chroma scaling. Bins outside min to max are read as 0.
 #[derive(Debug, Clone, Default, PartialEq, Eq)]
-pub struct LmcsData {
+#[repr(C)]
+pub struct Lmcs {
+    /// 0 to 3.
+    pub aps_adaptation_parameter_set_id: u8,
+    /// Whether chroma fields are sent.
+    pub aps_chroma_present_flag: bool,
+    /// Whether extension data follows, which is not kept; a set with it is not written.
+    pub aps_extension_flag: bool,
     /// 0 to 15.
     pub lmcs_min_bin_idx: u32,
     /// 0 to 15, and 15 less this is at least the min bin.
@@ -19,7 +26,7 @@ pub struct LmcsData {
     pub lmcs_delta_sign_crs_flag: bool,
 }
 
-impl LmcsData {
+impl Lmcs {
     /// `LmcsMaxBinIdx`, 15 less the delta.
     pub fn lmcs_max_bin_idx(&self) -> u32 {
         15 - self.lmcs_delta_max_bin_idx.min(15)

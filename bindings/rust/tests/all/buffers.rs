@@ -1,25 +1,36 @@
-//! Empty slices, and outputs and work buffers that are too short.
+//! Empty slices, and inputs, outputs and work buffers that are too short.
 
 use crate::bytes::{example, example_list, hex};
 use crate::made;
 use kendwyra::escapes::{ebsp_to_rbsp, rbsp_to_ebsp};
-use kendwyra::sets::{nal_header, rbsp_end, read, read_unit, rewrite, unit_end, write, write_unit};
-use kendwyra::{Aps, Counts, Refusal, Table, Taken};
+use kendwyra::sets::{nal_header, read, read_unit, rewrite, write, write_unit};
+use kendwyra::{raw, Alf, Aps, Counts, Head, Lmcs, Refusal, Scaling, Table, Taken};
+
+const END: Refusal = Refusal::UnexpectedEnd;
+const SHORT: Refusal = Refusal::OutputTooShort;
 
 #[test]
 fn empty_slices() {
-    let end = Refusal::UnexpectedEnd;
-    let short = Refusal::OutputTooShort;
-    assert_eq!(nal_header(&[]), Err(end));
-    assert_eq!(read(&[]), Err(end));
-    assert_eq!(rbsp_end(&[]), Err(end));
-    assert_eq!(read_unit(&[], &mut []), Err(end));
-    assert_eq!(read_unit(&hex("00 89"), &mut []), Err(end));
-    assert_eq!(unit_end(&[], &mut []), Err(end));
-    assert_eq!(rewrite(&[], &mut []), Err(end));
-    assert_eq!(rewrite(&hex("00 10"), &mut []), Err(short));
-    assert_eq!(write(&Aps::default(), &mut []), Err(short));
-    assert_eq!(write_unit(&Aps::default(), 17, &mut []), Err(short));
+    assert_eq!(nal_header(&[]), Err(END));
+    assert_eq!(read(&[]), Err(END));
+    assert_eq!(Head::read(&[]), Err(END));
+    assert_eq!(Alf::read(&[]), Err(END));
+    assert_eq!(Lmcs::read(&[]), Err(END));
+    assert_eq!(Scaling::read(&[]), Err(END));
+    for unit in [hex(""), hex("00 89")] {
+        assert_eq!(read_unit(&unit, &mut []), Err(END));
+        assert_eq!(Head::read_unit(&unit, &mut []), Err(END));
+        assert_eq!(Alf::read_unit(&unit, &mut []), Err(END));
+        assert_eq!(Lmcs::read_unit(&unit, &mut []), Err(END));
+        assert_eq!(Scaling::read_unit(&unit, &mut []), Err(END));
+    }
+    assert_eq!(rewrite(&[], &mut []), Err(END));
+    assert_eq!(rewrite(&hex("00 10"), &mut []), Err(SHORT));
+    for set in made::all() {
+        assert_eq!(write(&set, &mut []), Err(SHORT));
+        assert_eq!(write_unit(&set, 17, &mut []), Err(SHORT));
+        assert_eq!(write_unit(&set, 19, &mut []), Err(Refusal::InvalidData));
+    }
     assert_eq!(ebsp_to_rbsp(&[], &mut []), Ok(0));
     assert_eq!(rbsp_to_ebsp(&[], &mut []), Ok(0));
 }
@@ -29,7 +40,7 @@ fn empty_slices_and_a_table() {
     let mut table = Table::new();
     assert_eq!(table.write_list(&mut []), Ok(0));
     assert_eq!(table.list(), Ok(vec![]));
-    assert_eq!(table.take_unit(&[], &mut []), Err(Refusal::UnexpectedEnd));
+    assert_eq!(table.take_unit(&[], &mut []), Err(END));
     assert_eq!(table.take_unit(&hex("00 01"), &mut []), Ok(Taken::PassedOver));
     let none = Counts {
         accepted: 0,
@@ -38,14 +49,14 @@ fn empty_slices_and_a_table() {
     };
     assert_eq!(table.take_stream(&[], &mut []), Ok(none));
     table.take_stream(&example(), &mut [0; 17]).unwrap();
-    assert_eq!(table.write_list(&mut []), Err(Refusal::OutputTooShort));
+    assert_eq!(table.write_list(&mut []), Err(SHORT));
 }
 
 /// Writes `due` into room of every length up to its own, and two bytes more.
 fn into_each_room(due: &[u8], write: impl Fn(&mut [u8]) -> Result<usize, Refusal>) {
     for room in 0..due.len() {
         let mut out = vec![0xAA; room];
-        assert_eq!(write(&mut out), Err(Refusal::OutputTooShort));
+        assert_eq!(write(&mut out), Err(SHORT));
         assert_eq!(out, vec![0xAA; room]);
     }
     for more in [0, 2] {
@@ -57,7 +68,7 @@ fn into_each_room(due: &[u8], write: impl Fn(&mut [u8]) -> Result<usize, Refusal
 
 #[test]
 fn outputs() {
-    let set = made::lmcs(1);
+    let set = Aps::Lmcs(made::lmcs(1));
     let (mut rbsp, mut unit) = ([0; 64], [0; 64]);
     let len = write(&set, &mut rbsp).unwrap();
     let unit_len = write_unit(&set, 18, &mut unit).unwrap();
@@ -71,16 +82,103 @@ fn outputs() {
     into_each_room(&example_list(), |out| table.write_list(out));
 }
 
+/// Each call of a set of each kind, with a length one short.
+#[test]
+fn one_short() {
+    for set in [
+        Aps::Alf(made::alf(1)),
+        Aps::Lmcs(made::lmcs(1)),
+        Aps::Scaling(made::scaling(1)),
+    ] {
+        let (mut rbsp, mut unit) = ([0; 4096], [0; 6144]);
+        let len = write(&set, &mut rbsp).unwrap();
+        let unit_len = write_unit(&set, 17, &mut unit).unwrap();
+        let (rbsp, unit) = (&rbsp[..len], &unit[..unit_len]);
+
+        let mut out = vec![0xAA; unit_len];
+        assert_eq!(write(&set, &mut out[..len - 1]), Err(SHORT));
+        assert_eq!(write_unit(&set, 17, &mut out[..unit_len - 1]), Err(SHORT));
+        assert_eq!(rewrite(rbsp, &mut out[..len - 1]), Err(SHORT));
+        assert_eq!(rbsp_to_ebsp(rbsp, &mut out[..unit_len - 3]), Err(SHORT));
+        assert_eq!(ebsp_to_rbsp(&unit[2..], &mut out[..len - 1]), Err(SHORT));
+        assert_eq!(read_unit(unit, &mut out[..unit_len - 3]), Err(SHORT));
+        assert_eq!(Head::read_unit(unit, &mut out[..unit_len - 3]), Err(SHORT));
+        let mut table = Table::new();
+        assert_eq!(table.take_unit(unit, &mut out[..unit_len - 3]), Err(SHORT));
+        let stream = [&[0, 0, 1], unit].concat();
+        assert_eq!(table.take_stream(&stream, &mut vec![0; unit_len + 2]), Err(SHORT));
+        assert_eq!(out, vec![0xAA; unit_len]);
+
+        assert_eq!(read(&rbsp[..len - 1]), Err(END));
+        assert_eq!(Head::read(&rbsp[..len - 1]), Err(END));
+        assert_eq!(rewrite(&rbsp[..len - 1], &mut out), Err(END));
+        assert_eq!(read_unit(&unit[..unit_len - 1], &mut out), Err(END));
+        assert_eq!(table.take_unit(&unit[..unit_len - 1], &mut out), Err(END));
+        assert_eq!(table.take_unit(unit, &mut out[..unit_len - 2]), Ok(Taken::Accepted));
+        assert_eq!(table.write_list(&mut vec![0; unit_len + 3]), Err(SHORT));
+        assert_eq!(table.write_list(&mut vec![0; unit_len + 4]), Ok(unit_len + 4));
+    }
+}
+
+/// The calls by kind that only `raw` has.
+#[test]
+fn raw_calls() {
+    type End = unsafe extern "C" fn(*const u8, usize, &mut u64) -> u32;
+    type Rewrite = unsafe extern "C" fn(*const u8, usize, *mut u8, usize, &mut u64) -> u32;
+    let calls: [(Aps, End, Rewrite); 3] = [
+        (Aps::Alf(made::alf(1)), raw::aps_alf_end, raw::aps_alf_rewrite),
+        (Aps::Lmcs(made::lmcs(1)), raw::aps_lmcs_end, raw::aps_lmcs_rewrite),
+        (
+            Aps::Scaling(made::scaling(1)),
+            raw::aps_scaling_end,
+            raw::aps_scaling_rewrite,
+        ),
+    ];
+    for (set, end, rewrite) in &calls {
+        let end = |bytes: &[u8]| {
+            let mut bit = 9;
+            // SAFETY: the pointer is a slice's, with its own length.
+            let code = unsafe { end(bytes.as_ptr(), bytes.len(), &mut bit) };
+            (code, bit)
+        };
+        let rewrite = |bytes: &[u8], out: &mut [u8]| {
+            let mut len = 9;
+            // SAFETY: both pointers are those of slices, with their own lengths, and the slices don't overlap.
+            let code = unsafe { rewrite(bytes.as_ptr(), bytes.len(), out.as_mut_ptr(), out.len(), &mut len) };
+            (code, len)
+        };
+        assert_eq!(end(&[]), (1, 9));
+        assert_eq!(rewrite(&[], &mut []), (1, 9));
+        for (other, _, _) in &calls {
+            let (mut rbsp, mut out) = ([0; 4096], [0; 4096]);
+            let len = write(other, &mut rbsp).unwrap();
+            assert_eq!(end(&rbsp[..len]), (0, len as u64 * 8));
+            assert_eq!(end(&rbsp[..len - 1]), (1, 9));
+            if other.kind() != set.kind() {
+                assert_eq!(rewrite(&rbsp[..len], &mut out), (2, 9));
+                continue;
+            }
+            assert_eq!(rewrite(&rbsp[..len], &mut []), (5, 9));
+            assert_eq!(rewrite(&rbsp[..len], &mut out[..len - 1]), (5, 9));
+            assert_eq!(out, [0; 4096]);
+            assert_eq!(rewrite(&rbsp[..len], &mut out), (0, len as u64));
+            assert_eq!(out, rbsp);
+        }
+    }
+}
+
 #[test]
 fn work() {
     let unit = hex("00 89 20 42 12");
     let mut table = Table::new();
     let mut work = [0xAA; 17];
-    let short = Refusal::OutputTooShort;
-    assert_eq!(read_unit(&unit, &mut work[..2]), Err(short));
-    assert_eq!(unit_end(&unit, &mut work[..2]), Err(short));
-    assert_eq!(table.take_unit(&unit, &mut work[..2]), Err(short));
-    assert_eq!(table.take_stream(&example(), &mut work[..16]), Err(short));
+    assert_eq!(read_unit(&unit, &mut work[..2]), Err(SHORT));
+    assert_eq!(Head::read_unit(&unit, &mut work[..2]), Err(SHORT));
+    assert_eq!(Alf::read_unit(&unit, &mut work[..2]), Err(SHORT));
+    assert_eq!(Lmcs::read_unit(&unit, &mut work[..2]), Err(SHORT));
+    assert_eq!(Scaling::read_unit(&unit, &mut work[..2]), Err(SHORT));
+    assert_eq!(table.take_unit(&unit, &mut work[..2]), Err(SHORT));
+    assert_eq!(table.take_stream(&example(), &mut work[..16]), Err(SHORT));
     assert_eq!(work, [0xAA; 17]);
     assert_eq!(table.list(), Ok(vec![]));
     assert_eq!(table.take_unit(&unit, &mut work[..3]), Ok(Taken::Accepted));

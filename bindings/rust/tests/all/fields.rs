@@ -1,8 +1,8 @@
 //! Sets from bits that are written out, field by field.
 
 use crate::bytes::bits;
-use kendwyra::sets::{nal_header, read, read_unit, unit_end, NalHeader};
-use kendwyra::{Aps, Kind};
+use kendwyra::sets::{nal_header, read, read_unit, NalHeader};
+use kendwyra::{Alf, Aps, Head, Kind, Lmcs, Scaling};
 
 #[test]
 fn alf() {
@@ -11,28 +11,28 @@ fn alf() {
     let cr = "010  000 000 000 000 000 000 001 0  010 1 000 000 000 000 000 000";
     let (set, _) = read(&bits(&format!("000 00101 1  0 1 1 1  {chroma} {cb} {cr}  0 1"))).unwrap();
 
-    let mut due = Aps {
+    let mut due = Alf {
         aps_adaptation_parameter_set_id: 5,
         aps_chroma_present_flag: true,
-        ..Aps::default()
+        ..Alf::default()
     };
-    due.alf.alf_chroma_filter_signal_flag = true;
-    due.alf.alf_cc_cb_filter_signal_flag = true;
-    due.alf.alf_cc_cr_filter_signal_flag = true;
-    due.alf.chroma.alf_chroma_clip_flag = true;
-    due.alf.chroma.alf_chroma_num_alt_filters_minus1 = 1;
-    due.alf.chroma.coeff_abs[0][0] = 1;
-    due.alf.chroma.coeff_sign[0][0] = true;
-    due.alf.chroma.coeff_abs[1][5] = 2;
-    due.alf.chroma.clip_idx[0] = [1, 2, 3, 0, 0, 0];
-    due.alf.chroma.clip_idx[1][5] = 3;
-    due.alf.cc_cb.mapped_coeff_abs[0][0] = 7;
-    due.alf.cc_cb.coeff_sign[0][0] = true;
-    due.alf.cc_cr.filters_signalled_minus1 = 1;
-    due.alf.cc_cr.mapped_coeff_abs[0][6] = 1;
-    due.alf.cc_cr.mapped_coeff_abs[1][0] = 2;
-    due.alf.cc_cr.coeff_sign[1][0] = true;
-    assert_eq!(set, due);
+    due.alf_chroma_filter_signal_flag = true;
+    due.alf_cc_cb_filter_signal_flag = true;
+    due.alf_cc_cr_filter_signal_flag = true;
+    due.alf_chroma_clip_flag = true;
+    due.alf_chroma_num_alt_filters_minus1 = 1;
+    due.alf_chroma_coeff_abs[0][0] = 1;
+    due.alf_chroma_coeff_sign[0][0] = true;
+    due.alf_chroma_coeff_abs[1][5] = 2;
+    due.alf_chroma_clip_idx[0] = [1, 2, 3, 0, 0, 0];
+    due.alf_chroma_clip_idx[1][5] = 3;
+    due.alf_cc_cb_mapped_coeff_abs[0][0] = 7;
+    due.alf_cc_cb_coeff_sign[0][0] = true;
+    due.alf_cc_cr_filters_signalled_minus1 = 1;
+    due.alf_cc_cr_mapped_coeff_abs[0][6] = 1;
+    due.alf_cc_cr_mapped_coeff_abs[1][0] = 2;
+    due.alf_cc_cr_coeff_sign[1][0] = true;
+    assert_eq!(set, Aps::Alf(due));
 }
 
 #[test]
@@ -46,36 +46,37 @@ fn luma() {
     )))
     .unwrap();
 
-    let mut due = Aps::default();
-    due.alf.alf_luma_filter_signal_flag = true;
-    due.alf.luma.alf_luma_clip_flag = true;
-    due.alf.luma.alf_luma_num_filters_signalled_minus1 = 1;
-    due.alf.luma.alf_luma_coeff_delta_idx[..2].fill(1);
-    due.alf.luma.coeff_abs[0][0] = 128;
-    due.alf.luma.coeff_sign[0][0] = true;
-    due.alf.luma.coeff_abs[1][11] = 1;
-    due.alf.luma.clip_idx[0][0] = 1;
-    due.alf.luma.clip_idx[1][11] = 2;
-    assert_eq!(set, due);
+    let mut due = Alf {
+        alf_luma_filter_signal_flag: true,
+        alf_luma_clip_flag: true,
+        alf_luma_num_filters_signalled_minus1: 1,
+        ..Alf::default()
+    };
+    due.alf_luma_coeff_delta_idx[..2].fill(1);
+    due.alf_luma_coeff_abs[0][0] = 128;
+    due.alf_luma_coeff_sign[0][0] = true;
+    due.alf_luma_coeff_abs[1][11] = 1;
+    due.alf_luma_clip_idx[0][0] = 1;
+    due.alf_luma_clip_idx[1][11] = 2;
+    assert_eq!(set, Aps::Alf(due));
 }
 
 #[test]
 fn lmcs() {
     let rbsp = bits("001 00011 1  010 0001110 011  101 1 000  110 0  0 1");
-    let mut due = Aps {
-        kind: Kind::Lmcs,
+    let mut due = Lmcs {
         aps_adaptation_parameter_set_id: 3,
         aps_chroma_present_flag: true,
-        ..Aps::default()
+        ..Lmcs::default()
     };
-    due.lmcs.lmcs_min_bin_idx = 1;
-    due.lmcs.lmcs_delta_max_bin_idx = 13;
-    due.lmcs.lmcs_delta_cw_prec_minus1 = 2;
-    due.lmcs.lmcs_delta_abs_cw[1] = 5;
-    due.lmcs.lmcs_delta_sign_cw_flag[1] = true;
-    due.lmcs.lmcs_delta_abs_crs = 6;
-    assert_eq!(due.lmcs.lmcs_max_bin_idx(), 2);
-    assert_eq!(read(&rbsp), Ok((due, 40)));
+    due.lmcs_min_bin_idx = 1;
+    due.lmcs_delta_max_bin_idx = 13;
+    due.lmcs_delta_cw_prec_minus1 = 2;
+    due.lmcs_delta_abs_cw[1] = 5;
+    due.lmcs_delta_sign_cw_flag[1] = true;
+    due.lmcs_delta_abs_crs = 6;
+    assert_eq!(due.lmcs_max_bin_idx(), 2);
+    assert_eq!(read(&rbsp), Ok((Aps::Lmcs(due), 40)));
 }
 
 #[test]
@@ -87,20 +88,18 @@ fn scaling() {
     let lists = format!("{list_2} 1 00100 1 {list_11} {list_14} {copied} 1 000010100");
     let (set, _) = read(&bits(&format!("010 00111 0  {lists}  0 1"))).unwrap();
 
-    let mut due = Aps {
-        kind: Kind::Scaling,
+    let mut due = Scaling {
         aps_adaptation_parameter_set_id: 7,
-        ..Aps::default()
+        ..Scaling::default()
     };
-    let d = &mut due.scaling;
-    d.copy_mode_flag = std::array::from_fn(|id| ![2, 11, 14].contains(&id));
-    d.pred_mode_flag[11] = true;
-    d.pred_id_delta[5] = 3;
-    d.pred_id_delta[27] = 19;
-    d.dc_coef[0] = -128;
-    d.scaling_list[2][..16].fill(1);
-    d.scaling_list[14].fill(-1);
-    assert_eq!(set, due);
+    due.scaling_list_copy_mode_flag = std::array::from_fn(|id| ![2, 11, 14].contains(&id));
+    due.scaling_list_pred_mode_flag[11] = true;
+    due.scaling_list_pred_id_delta[5] = 3;
+    due.scaling_list_pred_id_delta[27] = 19;
+    due.scaling_list_dc_coef[0] = -128;
+    due.scaling_list[2][..16].fill(1);
+    due.scaling_list[14].fill(-1);
+    assert_eq!(set, Aps::Scaling(due));
 }
 
 #[test]
@@ -113,9 +112,13 @@ fn unit() {
         nal_unit_type: 18,
         nuh_temporal_id_plus1: 5,
     };
+    let due = Head {
+        kind: Kind::Lmcs,
+        ..Head::default()
+    };
     let mut work = [9; 4];
     assert_eq!(nal_header(&unit), Ok(header));
-    assert_eq!(unit_end(&unit, &mut work), Ok(24));
+    assert_eq!(Head::read_unit(&unit, &mut work), Ok((due, 24)));
     assert_eq!(read_unit(&unit, &mut work), read(&[0x20, 0x42, 0x12]));
     assert_eq!(work, [0x20, 0x42, 0x12, 9]);
 }

@@ -1,7 +1,6 @@
 //! Full sets of each kind, with values that tell the places apart.
 
-use kendwyra::sets::{AlfCcFilters, AlfChroma, AlfData, AlfLuma, LmcsData, ScalingListData};
-use kendwyra::{Aps, Kind};
+use kendwyra::{Alf, Aps, Kind, Lmcs, Scaling};
 
 /// A row of magnitudes up to `most`, and signs for those that are not 0.
 fn row<const W: usize>(at: usize, most: usize) -> ([u32; W], [bool; W]) {
@@ -9,76 +8,64 @@ fn row<const W: usize>(at: usize, most: usize) -> ([u32; W], [bool; W]) {
     (abs, abs.map(|x| x % 3 == 1))
 }
 
-fn luma() -> AlfLuma {
-    AlfLuma {
+/// Cross-component filters up to a count, the first at row `at` of the values.
+fn cross(count: usize, at: usize) -> ([[u8; 7]; 4], [[bool; 7]; 4]) {
+    let row = |i: usize| {
+        if i < count {
+            row(at + i, 7)
+        } else {
+            ([0; 7], [false; 7])
+        }
+    };
+    (
+        std::array::from_fn(|i| row(i).0.map(|x| x as u8)),
+        std::array::from_fn(|i| row(i).1),
+    )
+}
+
+pub fn alf(id: u8) -> Alf {
+    let (cb, cr) = (cross(4, 0), cross(2, 5));
+    Alf {
+        aps_adaptation_parameter_set_id: id,
+        aps_chroma_present_flag: true,
+        aps_extension_flag: false,
+        alf_luma_filter_signal_flag: true,
+        alf_chroma_filter_signal_flag: true,
+        alf_cc_cb_filter_signal_flag: true,
+        alf_cc_cr_filter_signal_flag: true,
         alf_luma_clip_flag: true,
         alf_luma_num_filters_signalled_minus1: 24,
         alf_luma_coeff_delta_idx: std::array::from_fn(|i| 24 - i as u8),
-        coeff_abs: std::array::from_fn(|i| row(i, 128).0),
-        coeff_sign: std::array::from_fn(|i| row::<12>(i, 128).1),
-        clip_idx: std::array::from_fn(|i| std::array::from_fn(|j| ((i + j) % 4) as u8)),
-    }
-}
-
-fn chroma() -> AlfChroma {
-    AlfChroma {
+        alf_luma_coeff_abs: std::array::from_fn(|i| row(i, 128).0),
+        alf_luma_coeff_sign: std::array::from_fn(|i| row::<12>(i, 128).1),
+        alf_luma_clip_idx: std::array::from_fn(|i| std::array::from_fn(|j| ((i + j) % 4) as u8)),
         alf_chroma_clip_flag: true,
         alf_chroma_num_alt_filters_minus1: 7,
-        coeff_abs: std::array::from_fn(|i| row(i, 128).0),
-        coeff_sign: std::array::from_fn(|i| row::<6>(i, 128).1),
-        clip_idx: std::array::from_fn(|i| std::array::from_fn(|j| ((i * j) % 4) as u8)),
+        alf_chroma_coeff_abs: std::array::from_fn(|i| row(i, 128).0),
+        alf_chroma_coeff_sign: std::array::from_fn(|i| row::<6>(i, 128).1),
+        alf_chroma_clip_idx: std::array::from_fn(|i| std::array::from_fn(|j| ((i * j) % 4) as u8)),
+        alf_cc_cb_filters_signalled_minus1: 3,
+        alf_cc_cb_mapped_coeff_abs: cb.0,
+        alf_cc_cb_coeff_sign: cb.1,
+        alf_cc_cr_filters_signalled_minus1: 1,
+        alf_cc_cr_mapped_coeff_abs: cr.0,
+        alf_cc_cr_coeff_sign: cr.1,
     }
 }
 
-/// Cross-component filters, the first at row `at` of the values.
-fn cross(count: usize, at: usize) -> AlfCcFilters {
-    let mut filters = AlfCcFilters {
-        filters_signalled_minus1: count as u32 - 1,
-        ..AlfCcFilters::default()
-    };
-    for i in 0..count {
-        let (abs, sign) = row(at + i, 7);
-        filters.mapped_coeff_abs[i] = abs.map(|x| x as u8);
-        filters.coeff_sign[i] = sign;
-    }
-    filters
-}
-
-pub fn alf(id: u8) -> Aps {
-    Aps {
-        kind: Kind::Alf,
-        aps_adaptation_parameter_set_id: id,
-        aps_chroma_present_flag: true,
-        alf: AlfData {
-            alf_luma_filter_signal_flag: true,
-            alf_chroma_filter_signal_flag: true,
-            alf_cc_cb_filter_signal_flag: true,
-            alf_cc_cr_filter_signal_flag: true,
-            luma: luma(),
-            chroma: chroma(),
-            cc_cb: cross(4, 0),
-            cc_cr: cross(2, 5),
-        },
-        ..Aps::default()
-    }
-}
-
-pub fn lmcs(id: u8) -> Aps {
+pub fn lmcs(id: u8) -> Lmcs {
     let bin = |i: usize| (2..=12).contains(&i);
-    Aps {
-        kind: Kind::Lmcs,
+    Lmcs {
         aps_adaptation_parameter_set_id: id,
         aps_chroma_present_flag: true,
-        lmcs: LmcsData {
-            lmcs_min_bin_idx: 2,
-            lmcs_delta_max_bin_idx: 3,
-            lmcs_delta_cw_prec_minus1: 14,
-            lmcs_delta_abs_cw: std::array::from_fn(|i| if bin(i) { 2000 * i as u32 } else { 0 }),
-            lmcs_delta_sign_cw_flag: std::array::from_fn(|i| bin(i) && i % 3 == 1),
-            lmcs_delta_abs_crs: 5,
-            lmcs_delta_sign_crs_flag: true,
-        },
-        ..Aps::default()
+        aps_extension_flag: false,
+        lmcs_min_bin_idx: 2,
+        lmcs_delta_max_bin_idx: 3,
+        lmcs_delta_cw_prec_minus1: 14,
+        lmcs_delta_abs_cw: std::array::from_fn(|i| if bin(i) { 2000 * i as u32 } else { 0 }),
+        lmcs_delta_sign_cw_flag: std::array::from_fn(|i| bin(i) && i % 3 == 1),
+        lmcs_delta_abs_crs: 5,
+        lmcs_delta_sign_crs_flag: true,
     }
 }
 
@@ -90,21 +77,25 @@ fn in_corner(i: usize) -> bool {
 }
 
 /// Every third list copied, every third predicted.
-pub fn scaling(id: u8) -> Aps {
-    let mut d = ScalingListData::default();
+pub fn scaling(id: u8) -> Scaling {
+    let mut d = Scaling {
+        aps_adaptation_parameter_set_id: id,
+        aps_chroma_present_flag: true,
+        ..Scaling::default()
+    };
     for list in 0..28 {
-        d.copy_mode_flag[list] = list % 3 == 0;
-        d.pred_mode_flag[list] = list % 3 == 1;
+        d.scaling_list_copy_mode_flag[list] = list % 3 == 0;
+        d.scaling_list_pred_mode_flag[list] = list % 3 == 1;
         if list % 3 != 2 && list != 0 {
-            d.pred_id_delta[list] = (list % 2) as u32;
+            d.scaling_list_pred_id_delta[list] = (list % 2) as u32;
         }
         if list % 3 == 0 {
             continue;
         }
         let mut sum = 0;
         if list > 13 {
-            d.dc_coef[list - 14] = 100 - list as i32 * 8;
-            sum = d.dc_coef[list - 14];
+            d.scaling_list_dc_coef[list - 14] = 100 - list as i32 * 8;
+            sum = d.scaling_list_dc_coef[list - 14];
         }
         let entries = [4, 16, 64][usize::from(list > 1) + usize::from(list > 7)];
         for i in 0..entries {
@@ -114,18 +105,14 @@ pub fn scaling(id: u8) -> Aps {
             d.scaling_list[list][i] = sum;
         }
     }
-    Aps {
-        kind: Kind::Scaling,
-        aps_adaptation_parameter_set_id: id,
-        aps_chroma_present_flag: true,
-        scaling: d,
-        ..Aps::default()
-    }
+    d
 }
 
 /// A set for each of the 20 places.
 pub fn all() -> Vec<Aps> {
     let ids = |kind: Kind| 0..=kind.max_id();
-    let first = ids(Kind::Alf).map(alf).chain(ids(Kind::Lmcs).map(lmcs));
-    first.chain(ids(Kind::Scaling).map(scaling)).collect()
+    let luma_filters = ids(Kind::Alf).map(|id| Aps::Alf(alf(id)));
+    let luma_mapping = ids(Kind::Lmcs).map(|id| Aps::Lmcs(lmcs(id)));
+    let lists = ids(Kind::Scaling).map(|id| Aps::Scaling(scaling(id)));
+    luma_filters.chain(luma_mapping).chain(lists).collect()
 }

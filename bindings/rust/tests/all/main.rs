@@ -3,9 +3,11 @@
 mod buffers;
 mod bytes;
 mod fields;
+mod flags;
+mod layout;
 mod made;
 mod marked;
-mod numbers;
+mod random;
 mod refusals;
 mod table;
 mod written;

@@ -2,47 +2,44 @@
 
 use crate::bytes::{example, example_list, hex};
 use kendwyra::escapes::{ebsp_to_rbsp, rbsp_to_ebsp};
-use kendwyra::sets::{read, rewrite, LmcsData, ScalingListData};
-use kendwyra::{Aps, Counts, Kind, Refusal, Table};
+use kendwyra::sets::{read, rewrite};
+use kendwyra::{Alf, Aps, Counts, Kind, Lmcs, Refusal, Scaling, Table};
 
-fn one_bin() -> Aps {
-    Aps {
-        kind: Kind::Lmcs,
-        lmcs: LmcsData {
-            lmcs_delta_max_bin_idx: 15,
-            ..LmcsData::default()
-        },
-        ..Aps::default()
+fn one_bin() -> Lmcs {
+    Lmcs {
+        lmcs_delta_max_bin_idx: 15,
+        ..Lmcs::default()
     }
 }
 
-fn all_copied() -> Aps {
-    Aps {
-        kind: Kind::Scaling,
-        scaling: ScalingListData {
-            copy_mode_flag: [true; 28],
-            ..ScalingListData::default()
-        },
-        ..Aps::default()
+fn all_copied() -> Scaling {
+    Scaling {
+        scaling_list_copy_mode_flag: [true; 28],
+        ..Scaling::default()
     }
 }
 
 #[test]
 fn sets() {
-    let chroma = Aps {
+    let chroma = Alf {
         aps_chroma_present_flag: true,
-        ..Aps::default()
+        ..Alf::default()
     };
-    let extended = Aps {
+    let extended = Alf {
         aps_extension_flag: true,
-        ..Aps::default()
+        ..Alf::default()
     };
-    assert_eq!(read(&hex("00 10")), Ok((Aps::default(), 16)));
-    assert_eq!(read(&hex("00 82")), Ok((chroma, 16)));
-    assert_eq!(read(&hex("00 20")), Ok((extended, 11)));
-    assert_eq!(read(&hex("00 10 FF")), Ok((Aps::default(), 16)));
-    assert_eq!(read(&hex("20 42 12")), Ok((one_bin(), 24)));
-    assert_eq!(read(&hex("40 7F FF E8")), Ok((all_copied(), 32)));
+    let rows = [
+        ("00 10", Aps::Alf(Alf::default()), 16),
+        ("00 82", Aps::Alf(chroma), 16),
+        ("00 20", Aps::Alf(extended), 11),
+        ("00 10 FF", Aps::Alf(Alf::default()), 16),
+        ("20 42 12", Aps::Lmcs(one_bin()), 24),
+        ("40 7F FF E8", Aps::Scaling(all_copied()), 32),
+    ];
+    for (rbsp, set, end) in rows {
+        assert_eq!(read(&hex(rbsp)), Ok((set, end)), "{rbsp}");
+    }
 }
 
 #[test]
@@ -77,7 +74,7 @@ fn stream_and_list() {
             passed_over: 0
         })
     );
-    assert_eq!(table.lookup(0, 0), Ok(Aps::default()));
-    assert_eq!(table.lookup(1, 0), Ok(one_bin()));
+    assert_eq!(table.lookup(Kind::Alf, 0), Ok(Aps::Alf(Alf::default())));
+    assert_eq!(table.lookup(Kind::Lmcs, 0), Ok(Aps::Lmcs(one_bin())));
     assert_eq!(table.list(), Ok(example_list()));
 }

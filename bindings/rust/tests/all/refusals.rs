@@ -3,8 +3,8 @@
 use crate::bytes::hex;
 use crate::made;
 use kendwyra::escapes::{ebsp_to_rbsp, rbsp_to_ebsp};
-use kendwyra::sets::{nal_header, rbsp_end, read, read_unit, rewrite, unit_end, write};
-use kendwyra::{Aps, Refusal, Table, LONGEST_INPUT};
+use kendwyra::sets::{nal_header, read, read_unit, rewrite, write};
+use kendwyra::{Alf, Aps, Head, Kind, Lmcs, Refusal, Scaling, Table, LONGEST_INPUT};
 
 #[test]
 fn numbers_and_words() {
@@ -25,8 +25,9 @@ fn each_number() {
     assert_eq!(read(&hex("24 00")).map_err(Refusal::number), Err(2));
     assert_eq!(read(&hex("60 00")).map_err(Refusal::number), Err(3));
     assert_eq!(read(&[0; LONGEST_INPUT + 1]).map_err(Refusal::number), Err(4));
-    assert_eq!(write(&Aps::default(), &mut [0]).map_err(Refusal::number), Err(5));
-    assert_eq!(Table::new().lookup(0, 0).map_err(Refusal::number), Err(6));
+    let set = Aps::Alf(Alf::default());
+    assert_eq!(write(&set, &mut [0]).map_err(Refusal::number), Err(5));
+    assert_eq!(Table::new().lookup(Kind::Alf, 0).map_err(Refusal::number), Err(6));
 }
 
 #[test]
@@ -41,27 +42,75 @@ fn units() {
         ("00 89 60 00", 3),
     ];
     for (unit, number) in rows {
+        let due = Err(Refusal::from_number(number).unwrap());
+        let unit = hex(unit);
+        assert_eq!(read_unit(&unit, &mut work).map(|_| ()), due, "{unit:X?}");
+        assert_eq!(Head::read_unit(&unit, &mut work).map(|_| ()), due, "{unit:X?}");
+        assert_eq!(Alf::read_unit(&unit, &mut work).map(|_| ()), due, "{unit:X?}");
+        assert_eq!(Lmcs::read_unit(&unit, &mut work).map(|_| ()), due, "{unit:X?}");
+        assert_eq!(Scaling::read_unit(&unit, &mut work).map(|_| ()), due, "{unit:X?}");
+    }
+}
+
+/// A set is read by its own kind's call only; one that is refused for itself gets the same by every call.
+#[test]
+fn another_kind() {
+    for set in made::all() {
+        let (mut rbsp, mut unit, mut work) = ([0; 4096], [0; 6144], [0; 6144]);
+        let len = set.write(&mut rbsp).unwrap();
+        let unit_len = set.write_unit(17, &mut unit).unwrap();
+        let (rbsp, unit) = (&rbsp[..len], &unit[..unit_len]);
+        let wrong = Refusal::InvalidData;
+        let of = |kind, set: Aps| {
+            if set.kind() == kind {
+                Ok((set, len * 8))
+            } else {
+                Err(wrong)
+            }
+        };
+        let alf = |(set, end)| (Aps::Alf(set), end);
+        assert_eq!(Alf::read(rbsp).map(alf), of(Kind::Alf, set.clone()));
+        assert_eq!(Alf::read_unit(unit, &mut work).map(alf), of(Kind::Alf, set.clone()));
+        let lmcs = |(set, end)| (Aps::Lmcs(set), end);
+        assert_eq!(Lmcs::read(rbsp).map(lmcs), of(Kind::Lmcs, set.clone()));
+        assert_eq!(Lmcs::read_unit(unit, &mut work).map(lmcs), of(Kind::Lmcs, set.clone()));
+        let scaling = |(set, end)| (Aps::Scaling(set), end);
+        assert_eq!(Scaling::read(rbsp).map(scaling), of(Kind::Scaling, set.clone()));
         assert_eq!(
-            read_unit(&hex(unit), &mut work).map_err(Refusal::number),
-            Err(number),
-            "{unit}"
+            Scaling::read_unit(unit, &mut work).map(scaling),
+            of(Kind::Scaling, set.clone())
         );
-        assert_eq!(
-            unit_end(&hex(unit), &mut work).map_err(Refusal::number),
-            Err(number),
-            "{unit}"
-        );
+        assert_eq!(Head::read(rbsp), Ok((set.head(), len * 8)));
+        assert_eq!(Head::read_unit(unit, &mut work), Ok((set.head(), len * 8)));
+    }
+    for first in 3..8 {
+        let rbsp = [first << 5, 0];
+        let unsupported = Refusal::Unsupported;
+        assert_eq!(Alf::read(&rbsp), Err(unsupported));
+        assert_eq!(Lmcs::read(&rbsp), Err(unsupported));
+        assert_eq!(Scaling::read(&rbsp), Err(unsupported));
+        assert_eq!(read(&rbsp), Err(unsupported));
+        assert_eq!(Head::read(&rbsp), Err(unsupported));
     }
 }
 
 /// After any of its bytes but the last.
 #[test]
 fn cut_off() {
-    for set in [made::alf(0), made::lmcs(0), made::scaling(0)] {
+    for set in [
+        Aps::Alf(made::alf(0)),
+        Aps::Lmcs(made::lmcs(0)),
+        Aps::Scaling(made::scaling(0)),
+    ] {
         let mut out = [0; 4_000];
         let len = write(&set, &mut out).unwrap();
         for cut in 0..len {
             assert_eq!(read(&out[..cut]), Err(Refusal::UnexpectedEnd), "{cut} of {len} bytes");
+            assert_eq!(
+                Head::read(&out[..cut]),
+                Err(Refusal::UnexpectedEnd),
+                "{cut} of {len} bytes"
+            );
         }
     }
 }
@@ -71,9 +120,14 @@ fn too_long() {
     let (long, mut out) = (vec![0; LONGEST_INPUT + 1], vec![0; 2 * LONGEST_INPUT]);
     let long = &long[..];
     assert_eq!(nal_header(long), Err(Refusal::InputTooLong));
-    assert_eq!(rbsp_end(long), Err(Refusal::InputTooLong));
-    assert_eq!(read_unit(long, &mut out), Err(Refusal::InputTooLong));
-    assert_eq!(unit_end(long, &mut out), Err(Refusal::InputTooLong));
+    for kind in 0..8 {
+        let mut long = long.to_vec();
+        (long[0], long[2]) = (kind << 5, kind << 5);
+        assert_eq!(read(&long), Err(Refusal::InputTooLong));
+        assert_eq!(Head::read(&long), Err(Refusal::InputTooLong));
+        assert_eq!(read_unit(&long, &mut out), Err(Refusal::InputTooLong));
+        assert_eq!(Head::read_unit(&long, &mut out), Err(Refusal::InputTooLong));
+    }
     assert_eq!(rewrite(long, &mut out), Err(Refusal::InputTooLong));
     assert_eq!(ebsp_to_rbsp(long, &mut out), Err(Refusal::InputTooLong));
     assert_eq!(rbsp_to_ebsp(long, &mut out), Err(Refusal::InputTooLong));

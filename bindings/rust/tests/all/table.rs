@@ -3,7 +3,7 @@
 use crate::bytes::{example, example_list, hex};
 use crate::made;
 use kendwyra::sets::{read, write_unit};
-use kendwyra::{Aps, Counts, Flags, Kind, Refusal, Table, Taken, LIST_BYTES};
+use kendwyra::{raw, Alf, Aps, Counts, Head, Kind, Lmcs, Refusal, Table, Taken, LIST_BYTES, TABLE_BYTES};
 
 /// A table that took the units of these sets, one by one.
 fn holding(sets: &[Aps]) -> Table {
@@ -21,9 +21,14 @@ fn every_place() {
     let sets = made::all();
     let table = holding(&sets);
     for set in &sets {
-        let (kind, id) = (set.kind.number(), set.aps_adaptation_parameter_set_id);
+        let (kind, id) = (set.kind(), set.aps_adaptation_parameter_set_id());
         assert_eq!(table.lookup(kind, id).as_ref(), Ok(set));
+        assert_eq!(table.head(kind, id), Ok(set.head()));
+        assert!(set.aps_chroma_present_flag() && !set.aps_extension_flag());
     }
+    assert_eq!(table.alf(7), Ok(made::alf(7)));
+    assert_eq!(table.lmcs(3), Ok(made::lmcs(3)));
+    assert_eq!(table.scaling(7), Ok(made::scaling(7)));
     let list = table.list().unwrap();
     assert!(list.len() <= LIST_BYTES);
     let mut second = Table::new();
@@ -41,18 +46,18 @@ fn every_place() {
 
 #[test]
 fn the_last_set_is_held() {
-    let mut table = holding(&[made::lmcs(0), made::lmcs(1)]);
+    let mut table = holding(&[Aps::Lmcs(made::lmcs(0)), Aps::Lmcs(made::lmcs(1))]);
     assert_eq!(
         table.take_unit(&hex("00 91 20 42 12"), &mut [0; 3]),
         Ok(Taken::Accepted)
     );
-    assert_eq!(table.lookup(1, 0), read(&hex("20 42 12")).map(|(set, _)| set));
-    assert_eq!(table.lookup(1, 1), Ok(made::lmcs(1)));
+    assert_eq!(table.lookup(Kind::Lmcs, 0), read(&hex("20 42 12")).map(|(set, _)| set));
+    assert_eq!(table.lmcs(1), Ok(made::lmcs(1)));
 }
 
 #[test]
 fn refused_and_passed_over() {
-    let mut table = holding(&[made::scaling(7)]);
+    let mut table = holding(&[Aps::Scaling(made::scaling(7))]);
     let before = table.list();
     let mut work = [9; 64];
     assert_eq!(table.take_unit(&hex("00 81 00 10"), &mut work), Ok(Taken::PassedOver));
@@ -85,15 +90,41 @@ fn refused_and_passed_over() {
 #[test]
 fn places_that_are_not_there() {
     let table = holding(&made::all());
-    for (kind, id) in [(0, 8), (1, 4), (2, 8), (3, 0), (7, 0), (255, 255), (0, 255)] {
-        assert_eq!(table.lookup(kind, id), Err(Refusal::InvalidData));
-        assert_eq!(table.flags(kind, id), Err(Refusal::InvalidData));
-    }
-    for kind in Kind::ALL {
-        for id in 0..=kind.max_id() {
-            assert_eq!(Table::new().lookup(kind.number(), id), Err(Refusal::EmptyPlace));
-            assert_eq!(Table::new().flags(kind.number(), id), Err(Refusal::EmptyPlace));
+    for id in 0..=255 {
+        let no_place = |kind: Kind| id > kind.max_id();
+        let due = |kind| {
+            if no_place(kind) {
+                Err(Refusal::InvalidData)
+            } else {
+                Ok(())
+            }
+        };
+        assert_eq!(table.alf(id).map(|_| ()), due(Kind::Alf));
+        assert_eq!(table.lmcs(id).map(|_| ()), due(Kind::Lmcs));
+        assert_eq!(table.scaling(id).map(|_| ()), due(Kind::Scaling));
+        for kind in Kind::ALL {
+            assert_eq!(table.lookup(kind, id).map(|_| ()), due(kind));
+            assert_eq!(table.head(kind, id).map(|_| ()), due(kind));
+            if !no_place(kind) {
+                assert_eq!(Table::new().lookup(kind, id), Err(Refusal::EmptyPlace));
+                assert_eq!(Table::new().head(kind, id), Err(Refusal::EmptyPlace));
+            }
         }
+    }
+}
+
+/// Numbers that are no kind's, which only `raw` takes.
+#[test]
+fn kinds_that_are_not_there() {
+    let mut table = [9; TABLE_BYTES];
+    // SAFETY: the arrays and the head are lent whole.
+    unsafe { raw::aps_table_new(&mut table) };
+    for kind in 0..=255 {
+        let mut head = Head::default();
+        let due = if kind < 3 { 6 } else { 2 };
+        // SAFETY: as above.
+        assert_eq!(unsafe { raw::aps_head_lookup(&table, kind, 0, &mut head) }, due);
+        assert_eq!(head, Head::default());
     }
 }
 
@@ -102,12 +133,12 @@ fn an_extended_set_is_held_and_not_listed() {
     let mut table = Table::new();
     table.take_unit(&hex("00 89 00 A0"), &mut [0; 2]).unwrap_err();
     table.take_unit(&hex("00 89 00 20"), &mut [0; 2]).unwrap();
-    let flags = Flags {
-        aps_chroma_present_flag: false,
+    let head = Head {
         aps_extension_flag: true,
+        ..Head::default()
     };
-    assert_eq!(table.flags(0, 0), Ok(flags));
-    assert!(table.lookup(0, 0).unwrap().aps_extension_flag);
+    assert_eq!(table.head(Kind::Alf, 0), Ok(head));
+    assert!(table.lookup(Kind::Alf, 0).unwrap().aps_extension_flag());
     let mut out = [9; 64];
     assert_eq!(table.write_list(&mut out), Err(Refusal::Unsupported));
     assert_eq!(out, [9; 64]);
@@ -116,14 +147,13 @@ fn an_extended_set_is_held_and_not_listed() {
 
 #[test]
 fn a_clone_is_a_table_of_its_own() {
-    let first = holding(&[made::alf(3)]);
+    let first = holding(&[Aps::Alf(made::alf(3))]);
     let mut second = first.clone();
     second.take_stream(&example(), &mut [0; 17]).unwrap();
-    assert_eq!(first.lookup(1, 0), Err(Refusal::EmptyPlace));
-    assert_eq!(second.lookup(0, 3), first.lookup(0, 3));
+    assert_eq!(first.lmcs(0), Err(Refusal::EmptyPlace));
+    assert_eq!(second.alf(3), first.alf(3));
     let mut third = Table::default();
     third.take_stream(&example_list(), &mut [0; 17]).unwrap();
-    let shown = "[(Alf, 0, Flags { aps_chroma_present_flag: false, aps_extension_flag: false }), \
-                 (Lmcs, 0, Flags { aps_chroma_present_flag: false, aps_extension_flag: false })]";
-    assert_eq!(format!("{third:?}"), shown);
+    let heads = [Aps::Alf(Alf::default()), Aps::Lmcs(Lmcs::default())].map(|set| set.head());
+    assert_eq!(format!("{third:?}"), format!("{heads:?}"));
 }

@@ -2,7 +2,7 @@
 
 use crate::made;
 use kendwyra::sets::{read, read_unit, rewrite, write, write_unit, NAL_TYPE_PREFIX_APS, NAL_TYPE_SUFFIX_APS};
-use kendwyra::{Aps, Kind, Refusal};
+use kendwyra::{Alf, Aps, Lmcs, Refusal, Scaling};
 
 #[test]
 fn read_back() {
@@ -31,65 +31,59 @@ fn read_back_as_a_unit() {
 }
 
 #[test]
-fn other_kinds_are_not_looked_at() {
-    let mixed = Aps {
-        alf: made::alf(0).alf,
-        scaling: made::scaling(0).scaling,
-        ..made::lmcs(1)
-    };
-    let (mut out, mut plain) = ([0; 64], [0; 64]);
-    assert_eq!(write(&mixed, &mut out), write(&made::lmcs(1), &mut plain));
-    assert_eq!(out, plain);
-}
-
-/// What a set comes to that is changed and written.
-fn changed(mut set: Aps, change: impl Fn(&mut Aps)) -> Result<usize, Refusal> {
-    change(&mut set);
-    write(&set, &mut [0; 4096])
-}
-
-#[test]
 fn values_that_are_not_written() {
-    let refused = |answer| assert_eq!(answer, Err(Refusal::InvalidData));
-    refused(changed(made::alf(0), |set| set.aps_adaptation_parameter_set_id = 8));
-    refused(changed(made::lmcs(0), |set| set.aps_adaptation_parameter_set_id = 4));
-    refused(changed(made::alf(0), |set| {
-        set.alf.luma.alf_luma_num_filters_signalled_minus1 = 25
-    }));
-    refused(changed(made::alf(0), |set| set.alf.luma.coeff_abs[24][11] = 129));
-    refused(changed(made::alf(0), |set| set.alf.cc_cr.mapped_coeff_abs[2][0] = 1));
-    refused(changed(made::alf(0), |set| set.aps_chroma_present_flag = false));
-    refused(changed(made::lmcs(0), |set| set.lmcs.lmcs_min_bin_idx = u32::MAX));
-    refused(changed(made::lmcs(0), |set| set.lmcs.lmcs_delta_abs_crs = 8));
-    refused(changed(made::scaling(0), |set| {
-        set.scaling.scaling_list[2][1] = i32::MIN
-    }));
-    refused(changed(made::scaling(0), |set| set.scaling.dc_coef[12] = 128));
-    refused(write_unit(&made::lmcs(0), 16, &mut [0; 64]));
+    let alf = |change: fn(&mut Alf)| {
+        let mut set = made::alf(0);
+        change(&mut set);
+        assert_eq!(set.write(&mut [0; 4096]), Err(Refusal::InvalidData));
+        assert_eq!(write(&Aps::Alf(set), &mut [0; 4096]), Err(Refusal::InvalidData));
+    };
+    alf(|set| set.aps_adaptation_parameter_set_id = 8);
+    alf(|set| set.alf_luma_num_filters_signalled_minus1 = 25);
+    alf(|set| set.alf_luma_coeff_abs[24][11] = 129);
+    alf(|set| set.alf_cc_cr_mapped_coeff_abs[2][0] = 1);
+    alf(|set| set.aps_chroma_present_flag = false);
+    let lmcs = |change: fn(&mut Lmcs)| {
+        let mut set = made::lmcs(0);
+        change(&mut set);
+        assert_eq!(set.write(&mut [0; 4096]), Err(Refusal::InvalidData));
+        assert_eq!(write(&Aps::Lmcs(set), &mut [0; 4096]), Err(Refusal::InvalidData));
+    };
+    lmcs(|set| set.aps_adaptation_parameter_set_id = 4);
+    lmcs(|set| set.lmcs_min_bin_idx = u32::MAX);
+    lmcs(|set| set.lmcs_delta_abs_crs = 8);
+    let scaling = |change: fn(&mut Scaling)| {
+        let mut set = made::scaling(0);
+        change(&mut set);
+        assert_eq!(set.write(&mut [0; 4096]), Err(Refusal::InvalidData));
+        assert_eq!(write(&Aps::Scaling(set), &mut [0; 4096]), Err(Refusal::InvalidData));
+    };
+    scaling(|set| set.scaling_list[2][1] = i32::MIN);
+    scaling(|set| set.scaling_list_dc_coef[12] = 128);
+    let set = Aps::Lmcs(made::lmcs(0));
+    assert_eq!(write_unit(&set, 16, &mut [0; 64]), Err(Refusal::InvalidData));
 }
 
 #[test]
 fn a_copied_list_is_not_looked_at() {
-    let plain = changed(made::scaling(0), |_| ());
+    let changed = |change: fn(&mut Scaling)| {
+        let (mut set, mut out) = (made::scaling(0), [0; 4096]);
+        change(&mut set);
+        set.write(&mut out).map(|len| out[..len].to_vec())
+    };
+    let plain = changed(|_| ());
     assert!(plain.is_ok());
-    assert_eq!(
-        changed(made::scaling(0), |set| set.scaling.dc_coef[13] = i32::MAX),
-        plain
-    );
-    assert_eq!(
-        changed(made::scaling(0), |set| set.scaling.scaling_list[27].fill(i32::MIN)),
-        plain
-    );
+    assert_eq!(changed(|set| set.scaling_list_dc_coef[13] = i32::MAX), plain);
+    assert_eq!(changed(|set| set.scaling_list[27].fill(i32::MIN)), plain);
 }
 
 #[test]
 fn an_extension_is_not_written() {
-    for kind in Kind::ALL {
-        let set = Aps {
-            kind,
-            aps_extension_flag: true,
-            ..Aps::default()
-        };
+    let (mut alf, mut lmcs, mut scaling) = (Alf::default(), Lmcs::default(), Scaling::default());
+    alf.aps_extension_flag = true;
+    lmcs.aps_extension_flag = true;
+    scaling.aps_extension_flag = true;
+    for set in [Aps::Alf(alf), Aps::Lmcs(lmcs), Aps::Scaling(scaling)] {
         assert_eq!(write(&set, &mut [0; 64]), Err(Refusal::Unsupported));
         assert_eq!(write_unit(&set, 17, &mut [0; 64]), Err(Refusal::Unsupported));
         assert_eq!(write_unit(&set, 255, &mut [0; 64]), Err(Refusal::InvalidData));

@@ -1,11 +1,7 @@
--- `write_list`: a table without a set has no bytes; else the list is put together and put at the start of the output.
-use Rattle.std.proofs.Common.{rules}
-use Rattle.std.specs.Prelude.{Err}
-use mathlib.Core.Path.{◌≡◌, sym, ap, ◌∙◌}
+-- `write_list`: a table without a set has no bytes.
+use mathlib.Core.Path.{sym, ap, ◌∙◌}
 use Rattle.bitstream.specs.Outcome.{left}
-use Rattle.aps.proofs.UnitWrites.{answered-as}
 use Rattle.aps_table.proofs.BareLaws.{bare-list}
-use Rattle.aps_table.proofs.ListSteps.{list-refused, list-bytes}
 use Rattle.aps_table.proofs.list.write_list.Goals as goal
 
 pub returns-then-is_bare : goal.returns-then-is_bare
@@ -13,14 +9,3 @@ returns-then-is_bare c =
     let a = c.args in
     let e = bare-list a.table.now a.out.now (sym c.is_bare.ensures ∙ c.if-is_bare.true) in
     record { answer = sym e; bytes = sym (ap (left a.out.now) e) }
-
-pub returns-in_err-put_all : goal.returns-in_err-put_all
-returns-in_err-put_all c =
-    let e : c.from_residual.result ≡ Err c.in_err-put_all.field-0.0 = search rules in
-    let r = list-refused c.args.table.now c.args.out.now _ c.in_err-put_all.ensures in
-    record { answer = rw e r.0; bytes = r.1 }
-
-pub returns : goal.returns
-returns c =
-    let r = answered-as c.args.out.now (list-bytes c.args.table.now c.args.out.now _ _ c.in_ok-put_all.ensures) (rw c.bytes.ensures at c.copy_out.ensures.answer, rw c.bytes.ensures at c.copy_out.ensures.bytes) in
-    record { answer = r.0; bytes = r.1 }

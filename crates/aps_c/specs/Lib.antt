@@ -1,4 +1,0 @@
-pub mod Numbers
-pub mod SetOf
-pub mod Codes
-pub mod TableCodes

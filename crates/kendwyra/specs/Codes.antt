@@ -1,0 +1,76 @@
+-- What an export returns for an outcome, and what it leaves in what is lent for the answer.
+use Rattle.std.specs.Prelude.{ℕ, Bool, cond, List, [], ◌∷◌, eqb, set}
+use Rattle.std.proofs.lemmas.List.Edits.{sets}
+use Rattle.bitstream.specs.Outcome.{Outcome, value, refused, ◌then◌}
+use Rattle.aps.specs.ApsSyntax.{number_of}
+use Rattle.aps.specs.Rbsp.{parse_aps_rbsp}
+use Rattle.aps.specs.Unit.{is_aps}
+use Rattle.aps.specs.Writing.{write_aps}
+use Rattle.aps.specs.declared.aps.ApsKind.{ApsKind}
+use Rattle.aps.specs.declared.aps.VvcAps.{VvcAps}
+use Rattle.aps.specs.declared.nal_header.VvcNalHeader.{VvcNalHeader}
+use Rattle.aps_table.specs.Places.{Looked, found, missing}
+use Rattle.aps_table.specs.Calls.{Answer, counted, accepted, passed, refusal}
+
+-- 0 for a value, or the refusal's number
+unfoldable pub code : {A : Type 0} → Outcome A → ℕ
+code (value a p) = 0
+code (refused e) = e
+
+-- the value; on a refusal what was there at entry
+unfoldable pub value_left : {A : Type 0} → Outcome A → A → A
+value_left (value a p) before = a
+value_left (refused e) before = before
+
+-- the place after the value; on a refusal the array at entry
+unfoldable pub place_left : {A : Type 0} → Outcome A → List ℕ → List ℕ
+place_left (value a p) before = set before 0 p
+place_left (refused e) before = before
+
+-- a set of one kind as C has it; 2 for a set of another kind
+unfoldable pub of_kind : {S : Type 0} → ApsKind → (VvcAps → S) → Outcome VvcAps → Outcome S
+of_kind kind of o = o then λ a q. cond (eqb (number_of a.kind) (number_of kind)) (value (of a) q) (refused 2)
+
+-- the same of a lookup
+unfoldable pub looked_code : Looked → ℕ
+looked_code (found a) = 0
+looked_code (missing n) = n
+
+unfoldable pub looked_left : {S : Type 0} → (VvcAps → S) → Looked → S → S
+looked_left of (found a) before = of a
+looked_left of (missing n) before = before
+
+-- a set of C's is written where its extension flag is not 1, else 3, and its flags are 0 or 1, else 2
+unfoldable pub taken : ℕ → Bool → Outcome (List ℕ) → Outcome (List ℕ)
+taken extension flags o = cond (eqb extension 1) (refused 3) (cond flags o (refused 2))
+
+-- as a unit: its type comes first
+unfoldable pub taken_nal : ℕ → ℕ → Bool → Outcome (List ℕ) → Outcome (List ℕ)
+taken_nal type extension flags o = cond (is_aps type) (taken extension flags o) (refused 2)
+
+-- the header's five fields; on a refusal the array at entry
+unfoldable pub header_left : Outcome VvcNalHeader → List ℕ → List ℕ
+header_left (value h p) before = sets before 0 (h.forbidden_zero_bit ∷ h.nuh_reserved_zero_bit ∷ h.nuh_layer_id ∷ h.nal_unit_type ∷ h.nuh_temporal_id_plus1 ∷ [])
+header_left (refused e) before = before
+
+-- `aps_rewrite`: the set that is read, written
+unfoldable pub rewrite : List ℕ → List ℕ → Outcome (List ℕ)
+rewrite s out = parse_aps_rbsp s then λ a q. write_aps a out
+
+-- `aps_alf_rewrite` and the like: the same of a set of that kind; 2 for one of another kind
+unfoldable pub rewrite_of : ApsKind → List ℕ → List ℕ → Outcome (List ℕ)
+rewrite_of kind s out = parse_aps_rbsp s then λ a q. cond (eqb (number_of a.kind) (number_of kind)) (write_aps a out) (refused 2)
+
+-- 0 for a stream that was taken and a unit that was accepted, 256 for a unit passed over, or the refusal's number
+unfoldable pub answer_code : Answer → ℕ
+answer_code (counted c) = 0
+answer_code accepted = 0
+answer_code passed = 256
+answer_code (refusal n) = n
+
+-- how many units were accepted, refused and passed over; on a refusal the array at entry
+unfoldable pub counts_left : Answer → List ℕ → List ℕ
+counts_left (counted c) before = sets before 0 (c.accepted ∷ c.refused ∷ c.passed ∷ [])
+counts_left accepted before = before
+counts_left passed before = before
+counts_left (refusal n) before = before

@@ -1,0 +1,4 @@
+pub mod Codes
+pub mod FieldCodes
+pub mod Flags
+pub mod Structs

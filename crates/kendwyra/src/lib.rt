@@ -1,0 +1,16 @@
+// What C and Rust link: sets by C's structs, the table and the list at a cut, escapes, and single fields. Each call gives 0 with the answer in what is lent, or a refusal's number with all as it was.
+#![tactic(auto)]
+
+mod alf;
+pub mod bytes;
+mod calls;
+pub mod fields;
+mod flags;
+pub mod heads;
+pub mod kinds;
+mod lmcs;
+mod scaling;
+mod set;
+pub mod sets;
+pub mod structs;
+pub mod table;

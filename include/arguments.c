@@ -1,0 +1,934 @@
+/* Every call of kendwyra.h with arguments of every sort: null with length 0, lengths one short, inputs that are too
+ * long, flags that are neither 0 nor 1, and random bytes, the same in each run. Answers are checked where they are known,
+ * and that a refusal changes nothing. Each buffer is as long as the call is told, so that a tool for memory errors sees
+ * each byte touched outside it. */
+#include "kendwyra.h"
+
+#include <stdio.h>
+#include <stdlib.h>
+#include <string.h>
+
+enum { UNTOUCHED = 0xAA, ROOM = 6144, RBSP = 4096 };
+
+static long failures;
+
+static void check(const char *what, long long got, long long wanted)
+{
+    if (got != wanted) {
+        if (failures < 20) {
+            printf("%s: %lld, not %lld\n", what, got, wanted);
+        }
+        failures++;
+    }
+}
+
+/* ---- buffers */
+
+/* A buffer of just so many bytes, all 0xAA; null for none. */
+static uint8_t *lend(size_t len)
+{
+    uint8_t *bytes = len ? malloc(len) : NULL;
+
+    if (len && !bytes) {
+        puts("no memory");
+        exit(2);
+    }
+    if (len) {
+        memset(bytes, UNTOUCHED, len);
+    }
+    return bytes;
+}
+
+static uint8_t *lend_copy(const uint8_t *from, size_t len)
+{
+    uint8_t *bytes = lend(len);
+
+    if (len) {
+        memcpy(bytes, from, len);
+    }
+    return bytes;
+}
+
+/* Whether all bytes from a place on are as they were lent. */
+static int untouched(const void *lent, size_t from, size_t len)
+{
+    const uint8_t *bytes = lent;
+
+    for (size_t i = from; i < len; i++) {
+        if (bytes[i] != UNTOUCHED) {
+            return 0;
+        }
+    }
+    return 1;
+}
+
+static int same(const uint8_t *a, const uint8_t *b, size_t len)
+{
+    return len == 0 || memcmp(a, b, len) == 0;
+}
+
+/* ---- the calls of each kind under one type */
+
+typedef struct range {
+    size_t at, len;
+} range;
+
+#define FLAGS(set, field) {offsetof(set, field), sizeof(((set *)0)->field)}
+
+static const range alf_flags[] = {
+    FLAGS(aps_alf, aps_chroma_present_flag),
+    FLAGS(aps_alf, aps_extension_flag),
+    FLAGS(aps_alf, alf_luma_filter_signal_flag),
+    FLAGS(aps_alf, alf_chroma_filter_signal_flag),
+    FLAGS(aps_alf, alf_cc_cb_filter_signal_flag),
+    FLAGS(aps_alf, alf_cc_cr_filter_signal_flag),
+    FLAGS(aps_alf, alf_luma_clip_flag),
+    FLAGS(aps_alf, alf_luma_coeff_sign),
+    FLAGS(aps_alf, alf_chroma_clip_flag),
+    FLAGS(aps_alf, alf_chroma_coeff_sign),
+    FLAGS(aps_alf, alf_cc_cb_coeff_sign),
+    FLAGS(aps_alf, alf_cc_cr_coeff_sign),
+    {0, 0},
+};
+
+static const range lmcs_flags[] = {
+    FLAGS(aps_lmcs, aps_chroma_present_flag),
+    FLAGS(aps_lmcs, aps_extension_flag),
+    FLAGS(aps_lmcs, lmcs_delta_sign_cw_flag),
+    FLAGS(aps_lmcs, lmcs_delta_sign_crs_flag),
+    {0, 0},
+};
+
+static const range scaling_flags[] = {
+    FLAGS(aps_scaling, aps_chroma_present_flag),
+    FLAGS(aps_scaling, aps_extension_flag),
+    FLAGS(aps_scaling, scaling_list_copy_mode_flag),
+    FLAGS(aps_scaling, scaling_list_pred_mode_flag),
+    {0, 0},
+};
+
+typedef struct calls {
+    uint8_t kind, most_id;
+    size_t size, extension;
+    const range *flags;
+    uint32_t (*parse_rbsp)(const uint8_t *bytes, size_t len, void *set, uint64_t end[1]);
+    uint32_t (*parse)(const uint8_t *unit, size_t len, uint8_t *work, size_t room, void *set, uint64_t end[1]);
+    uint32_t (*lookup)(const uint8_t table[APS_TABLE_BYTES], uint8_t id, void *set);
+    uint32_t (*write)(const void *set, uint8_t *out, size_t room, uint64_t len[1]);
+    uint32_t (*write_nal)(const void *set, uint8_t unit_type, uint8_t *out, size_t room, uint64_t len[1]);
+    uint32_t (*end)(const uint8_t *bytes, size_t len, uint64_t end[1]);
+    uint32_t (*rewrite)(const uint8_t *bytes, size_t len, uint8_t *out, size_t room, uint64_t written[1]);
+} calls;
+
+#define CALLS(name)                                                                                                       \
+    static uint32_t name##_parse_rbsp(const uint8_t *bytes, size_t len, void *set, uint64_t end[1])                       \
+    {                                                                                                                     \
+        return aps_##name##_parse_rbsp(bytes, len, set, end);                                                             \
+    }                                                                                                                     \
+    static uint32_t name##_parse(const uint8_t *unit, size_t len, uint8_t *work, size_t room, void *set, uint64_t end[1]) \
+    {                                                                                                                     \
+        return aps_##name##_parse(unit, len, work, room, set, end);                                                       \
+    }                                                                                                                     \
+    static uint32_t name##_lookup(const uint8_t table[APS_TABLE_BYTES], uint8_t id, void *set)                            \
+    {                                                                                                                     \
+        return aps_##name##_lookup(table, id, set);                                                                       \
+    }                                                                                                                     \
+    static uint32_t name##_write(const void *set, uint8_t *out, size_t room, uint64_t len[1])                             \
+    {                                                                                                                     \
+        return aps_##name##_write(set, out, room, len);                                                                   \
+    }                                                                                                                     \
+    static uint32_t name##_write_nal(const void *set, uint8_t unit_type, uint8_t *out, size_t room, uint64_t len[1])      \
+    {                                                                                                                     \
+        return aps_##name##_write_nal(set, unit_type, out, room, len);                                                    \
+    }
+
+CALLS(alf)
+CALLS(lmcs)
+CALLS(scaling)
+
+#define KIND(name, number, most_id)                                                                                  \
+    {number, most_id, sizeof(aps_##name), offsetof(aps_##name, aps_extension_flag), name##_flags, name##_parse_rbsp, \
+     name##_parse, name##_lookup, name##_write, name##_write_nal, aps_##name##_end, aps_##name##_rewrite}
+
+static const calls kinds[3] = {
+    KIND(alf, APS_ALF, 7),
+    KIND(lmcs, APS_LMCS, 3),
+    KIND(scaling, APS_SCALING, 7),
+};
+
+/* Whether each flag of a set is 0 or 1. */
+static int are_flags(const calls *k, const uint8_t *set)
+{
+    for (const range *r = k->flags; r->len; r++) {
+        for (size_t i = 0; i < r->len; i++) {
+            if (set[r->at + i] > 1) {
+                return 0;
+            }
+        }
+    }
+    return 1;
+}
+
+/* ---- a full set of each kind, and its bytes */
+
+static aps_alf alf;
+static aps_lmcs lmcs;
+static aps_scaling scaling;
+static const void *const full[3] = {&alf, &lmcs, &scaling};
+
+static uint8_t rbsps[6][RBSP], units[3][ROOM];
+static size_t rbsp_len[6], unit_len[3];
+
+static void fill_sets(void)
+{
+    alf.aps_adaptation_parameter_set_id = 5;
+    alf.aps_chroma_present_flag = 1;
+    alf.alf_luma_filter_signal_flag = 1;
+    alf.alf_chroma_filter_signal_flag = 1;
+    alf.alf_cc_cb_filter_signal_flag = 1;
+    alf.alf_cc_cr_filter_signal_flag = 1;
+    alf.alf_luma_clip_flag = 1;
+    alf.alf_luma_num_filters_signalled_minus1 = 24;
+    for (int i = 0; i < 25; i++) {
+        alf.alf_luma_coeff_delta_idx[i] = (uint8_t)(24 - i);
+        for (int j = 0; j < 12; j++) {
+            alf.alf_luma_coeff_abs[i][j] = (uint32_t)(i * 12 + j) % 129;
+            alf.alf_luma_coeff_sign[i][j] = alf.alf_luma_coeff_abs[i][j] % 3 == 1;
+            alf.alf_luma_clip_idx[i][j] = (uint8_t)((i + j) % 4);
+        }
+    }
+    alf.alf_chroma_clip_flag = 1;
+    alf.alf_chroma_num_alt_filters_minus1 = 7;
+    for (int i = 0; i < 8; i++) {
+        for (int j = 0; j < 6; j++) {
+            alf.alf_chroma_coeff_abs[i][j] = (uint32_t)(i * 6 + j) % 129;
+            alf.alf_chroma_coeff_sign[i][j] = alf.alf_chroma_coeff_abs[i][j] % 3 == 1;
+            alf.alf_chroma_clip_idx[i][j] = (uint8_t)(i * j % 4);
+        }
+    }
+    alf.alf_cc_cb_filters_signalled_minus1 = 3;
+    alf.alf_cc_cr_filters_signalled_minus1 = 1;
+    for (int i = 0; i < 4; i++) {
+        for (int j = 0; j < 7; j++) {
+            alf.alf_cc_cb_mapped_coeff_abs[i][j] = (uint8_t)((i * 7 + j) % 8);
+            alf.alf_cc_cb_coeff_sign[i][j] = alf.alf_cc_cb_mapped_coeff_abs[i][j] % 3 == 1;
+            alf.alf_cc_cr_mapped_coeff_abs[i][j] = i < 2 ? (uint8_t)((i * 7 + j + 3) % 8) : 0;
+            alf.alf_cc_cr_coeff_sign[i][j] = alf.alf_cc_cr_mapped_coeff_abs[i][j] % 3 == 1;
+        }
+    }
+
+    lmcs.aps_adaptation_parameter_set_id = 3;
+    lmcs.aps_chroma_present_flag = 1;
+    lmcs.lmcs_min_bin_idx = 2;
+    lmcs.lmcs_delta_max_bin_idx = 3;
+    lmcs.lmcs_delta_cw_prec_minus1 = 14;
+    for (int i = 2; i <= 12; i++) {
+        lmcs.lmcs_delta_abs_cw[i] = 2000 * (uint32_t)i;
+        lmcs.lmcs_delta_sign_cw_flag[i] = i % 3 == 1;
+    }
+    lmcs.lmcs_delta_abs_crs = 5;
+    lmcs.lmcs_delta_sign_crs_flag = 1;
+
+    scaling.aps_adaptation_parameter_set_id = 7;
+    scaling.aps_chroma_present_flag = 1;
+    for (int list = 0; list < 28; list++) {
+        int entries = list < 2 ? 4 : list < 8 ? 16 : 64, sum = list;
+
+        scaling.scaling_list_copy_mode_flag[list] = list % 3 == 0 || list > 25;
+        if (scaling.scaling_list_copy_mode_flag[list]) {
+            continue;
+        }
+        scaling.scaling_list_pred_mode_flag[list] = list % 3 == 1;
+        if (list > 13) {
+            scaling.scaling_list_dc_coef[list - 14] = 100 - list * 8;
+            sum = 100 - list * 8;
+        }
+        for (int i = 0; i < entries; i++) {
+            sum += i - list;
+            scaling.scaling_list[list][i] = sum;
+        }
+    }
+}
+
+static void write_sets(void)
+{
+    static const uint8_t small[3][4] = {{0x00, 0x10}, {0x20, 0x42, 0x12}, {0x40, 0x7F, 0xFF, 0xE8}};
+
+    for (int i = 0; i < 3; i++) {
+        uint64_t len[1];
+
+        check("a full set", kinds[i].write(full[i], rbsps[i], RBSP, len), 0);
+        rbsp_len[i] = len[0];
+        check("its unit", kinds[i].write_nal(full[i], 17, units[i], ROOM, len), 0);
+        unit_len[i] = len[0];
+        rbsp_len[3 + i] = (size_t)i + 2;
+        memcpy(rbsps[3 + i], small[i], rbsp_len[3 + i]);
+    }
+}
+
+/* ---- each call as it is lent its buffers */
+
+/* A writing call's answer: nothing is written for a refusal, and no byte past the length. */
+static void written(const char *what, uint32_t code, uint32_t due, const uint8_t *out, size_t room, uint64_t len)
+{
+    check(what, code, due);
+    if (code) {
+        check("no length", (long long)len, 77);
+        check("no output", untouched(out, 0, room), 1);
+    } else {
+        check("a length in the room", len <= room, 1);
+        check("the rest", untouched(out, len, room), 1);
+    }
+}
+
+/* Of a set read, what the caller looks at further. */
+typedef struct reading {
+    uint32_t code;
+    aps_head head;
+    uint64_t end;
+} reading;
+
+/* The set of a kind. The head's reading tells what is due: it, 2 for a set of another kind, or the same refusal. */
+static void one_kind(const calls *k, const reading *r, uint32_t code, const uint8_t *set, uint64_t end)
+{
+    uint32_t due = r->code ? r->code : r->head.kind == k->kind ? 0 : APS_INVALID_DATA;
+
+    check("a kind's code", code, due);
+    if (code) {
+        check("no set", untouched(set, 0, k->size), 1);
+        check("no end", (long long)end, 77);
+    } else {
+        check("flags", are_flags(k, set), 1);
+        check("id", set[0], r->head.aps_adaptation_parameter_set_id);
+        check("chroma", set[1], r->head.aps_chroma_present_flag);
+        check("extension", set[k->extension], r->head.aps_extension_flag);
+        check("end", (long long)end, (long long)r->end);
+    }
+}
+
+static void one_head(const reading *r)
+{
+    if (r->code) {
+        check("no head", untouched(&r->head, 0, sizeof r->head), 1);
+        check("no end", (long long)r->end, 77);
+    } else {
+        check("a kind", r->head.kind <= APS_SCALING, 1);
+        check("an id", r->head.aps_adaptation_parameter_set_id <= kinds[r->head.kind].most_id, 1);
+        check("two flags", r->head.aps_chroma_present_flag <= 1 && r->head.aps_extension_flag <= 1, 1);
+    }
+}
+
+/* An RBSP through every call that reads one. */
+static reading read_rbsp(const uint8_t *from, size_t len)
+{
+    uint8_t *bytes = lend_copy(from, len), *out = lend(len);
+    reading r = {0, {UNTOUCHED, UNTOUCHED, UNTOUCHED, UNTOUCHED}, 77};
+    uint64_t end[1] = {77};
+    uint32_t due;
+
+    r.code = aps_head_parse_rbsp(bytes, len, &r.head, end);
+    r.end = end[0];
+    one_head(&r);
+    due = r.code ? r.code : r.head.aps_extension_flag ? APS_UNSUPPORTED : 0;
+    for (int i = 0; i < 3; i++) {
+        const calls *k = &kinds[i];
+        uint8_t *set = lend(k->size);
+        uint64_t written_len[1] = {77};
+        uint32_t code;
+
+        end[0] = 77;
+        code = k->parse_rbsp(bytes, len, set, end);
+        one_kind(k, &r, code, set, end[0]);
+        if (code == 0) {
+            size_t room = (size_t)(r.end / 8);
+
+            code = k->write(set, out, len, written_len);
+            written("written again", code, due, out, len, written_len[0]);
+            if (due == 0) {
+                check("all its bytes", (long long)written_len[0], (long long)room);
+                check("its bytes", same(out, bytes, room), 1);
+                memset(out, UNTOUCHED, len);
+                written_len[0] = 77;
+                code = k->write(set, out, room - 1, written_len);
+                written("one short", code, APS_OUTPUT_TOO_SHORT, out, len, written_len[0]);
+            }
+        }
+        free(set);
+
+        end[0] = 77;
+        check("a kind's end", k->end(bytes, len, end), r.code);
+        check("the bit", (long long)end[0], (long long)r.end);
+        written_len[0] = 77;
+        code = k->rewrite(bytes, len, out, len, written_len);
+        written("a kind's rewrite", code, r.code == 0 && r.head.kind != k->kind ? (uint32_t)APS_INVALID_DATA : due, out, len,
+                written_len[0]);
+        if (len) {
+            memset(out, UNTOUCHED, len);
+        }
+        written_len[0] = 77;
+        code = aps_rewrite(bytes, len, out, len, written_len);
+        written("rewrite", code, due, out, len, written_len[0]);
+        if (code == 0) {
+            check("the same", same(out, bytes, written_len[0]), 1);
+            memset(out, UNTOUCHED, len);
+        }
+    }
+    check("an input that stays", same(bytes, from, len), 1);
+    free(bytes);
+    free(out);
+    return r;
+}
+
+/* A unit through every call that reads one, with a work buffer of its length less 2, and one byte shorter. */
+static reading read_unit(const uint8_t *from, size_t len, uint8_t *table)
+{
+    uint8_t *unit = lend_copy(from, len), *first = NULL, header[5] = {9, 9, 9, 9, 9};
+    size_t room = len > 2 ? len - 2 : 0;
+    reading r = {0, {0, 0, 0, 0}, 0};
+    uint32_t code, is_aps = len >= 2 && (from[1] / 8 == 17 || from[1] / 8 == 18);
+
+    code = aps_parse_nal_header(unit, len, header);
+    check("header", code, len < 2 ? APS_UNEXPECTED_END : 0);
+    check("type", header[3], len < 2 ? 9 : from[1] / 8);
+    for (int shorter = room > 0; shorter >= 0; shorter--) {
+        uint8_t *work = lend(room - (size_t)shorter);
+        uint64_t end[1] = {77};
+
+        r.head = (aps_head){UNTOUCHED, UNTOUCHED, UNTOUCHED, UNTOUCHED};
+        r.code = aps_head_parse(unit, len, work, room - (size_t)shorter, &r.head, end);
+        r.end = end[0];
+        one_head(&r);
+        if (len < 2) {
+            check("no unit", r.code, APS_UNEXPECTED_END);
+        } else if (!is_aps) {
+            check("another type", r.code, APS_INVALID_DATA);
+        } else if (shorter) {
+            check("a short work buffer", r.code, APS_OUTPUT_TOO_SHORT);
+        }
+        if (!is_aps || shorter) {
+            check("no work", untouched(work, 0, room - (size_t)shorter), 1);
+        }
+        first = work;
+        for (int i = 0; i < 3; i++) {
+            const calls *k = &kinds[i];
+            uint8_t *set = lend(k->size);
+
+            work = lend(room - (size_t)shorter);
+            end[0] = 77;
+            code = k->parse(unit, len, work, room - (size_t)shorter, set, end);
+            one_kind(k, &r, code, set, end[0]);
+            check("the same work", same(work, first, room - (size_t)shorter), 1);
+            free(set);
+            free(work);
+        }
+        work = lend(room - (size_t)shorter);
+        code = aps_take_unit(table, unit, len, work, room - (size_t)shorter);
+        check("taken", code, len >= 2 && !is_aps ? (uint32_t)APS_PASSED_OVER : r.code);
+        check("the work of it", same(work, first, room - (size_t)shorter), 1);
+        free(work);
+        free(first);
+        if (code == 0) {
+            aps_head held;
+
+            check("held", aps_head_lookup(table, r.head.kind, r.head.aps_adaptation_parameter_set_id, &held), 0);
+            check("the same head", memcmp(&held, &r.head, sizeof held), 0);
+        }
+    }
+    free(unit);
+    return r;
+}
+
+/* Every lookup in a table. */
+static void look_up_all(const uint8_t *table)
+{
+    for (int id = 0; id < 256; id = id == 9 ? 255 : id + 1) {
+        for (int kind = 0; kind < 5; kind++) {
+            aps_head head = {UNTOUCHED, UNTOUCHED, UNTOUCHED, UNTOUCHED};
+            uint32_t code = aps_head_lookup(table, (uint8_t)kind, (uint8_t)id, &head);
+            uint8_t *set;
+
+            if (kind > 2 || id > kinds[kind].most_id) {
+                check("no place", code, APS_INVALID_DATA);
+            } else {
+                check("a place", code == 0 || code == APS_EMPTY_PLACE, 1);
+            }
+            check("no head", code == 0 || untouched(&head, 0, sizeof head), 1);
+            if (kind > 2) {
+                continue;
+            }
+            set = lend(kinds[kind].size);
+            check("the same answer", kinds[kind].lookup(table, (uint8_t)id, set), code);
+            if (code) {
+                check("no set", untouched(set, 0, kinds[kind].size), 1);
+            } else {
+                check("the kind looked up", head.kind, kind);
+                check("the id looked up", head.aps_adaptation_parameter_set_id, id);
+                check("the set's id", set[0], id);
+                check("its flags", are_flags(&kinds[kind], set), 1);
+            }
+            free(set);
+        }
+    }
+}
+
+/* The list of a table into room of its length, and one byte less. */
+static uint8_t *write_list(const uint8_t *table, size_t *list_len)
+{
+    uint8_t *out = lend(APS_LIST_BYTES), *list;
+    uint64_t len[1] = {77};
+    uint32_t code = aps_write_list(table, out, APS_LIST_BYTES, len);
+
+    check("a list", code == 0 || code == APS_UNSUPPORTED, 1);
+    written("a list's bytes", code, code, out, APS_LIST_BYTES, len[0]);
+    *list_len = code ? 0 : (size_t)len[0];
+    list = lend(*list_len);
+    if (*list_len) {
+        check("a list again", aps_write_list(table, list, *list_len, len), 0);
+        check("its length", (long long)len[0], (long long)*list_len);
+        check("its bytes", same(list, out, *list_len), 1);
+        memset(out, UNTOUCHED, APS_LIST_BYTES);
+        len[0] = 77;
+        code = aps_write_list(table, out, *list_len - 1, len);
+        written("a list one short", code, APS_OUTPUT_TOO_SHORT, out, APS_LIST_BYTES, len[0]);
+    }
+    free(out);
+    return list;
+}
+
+/* ---- null with length 0 */
+
+static void nothing(void)
+{
+    uint8_t *table = lend(APS_TABLE_BYTES), header[5] = {9, 9, 9, 9, 9};
+    uint64_t counts[3] = {9, 9, 9}, len[1] = {77};
+    aps_head head = {UNTOUCHED, UNTOUCHED, UNTOUCHED, UNTOUCHED};
+
+    aps_table_new(table);
+    look_up_all(table);
+    check("no stream", aps_take_stream(table, NULL, 0, NULL, 0, counts), 0);
+    check("no counts", counts[0] == 0 && counts[1] == 0 && counts[2] == 0, 1);
+    check("no unit", aps_take_unit(table, NULL, 0, NULL, 0), APS_UNEXPECTED_END);
+    check("a header alone", aps_take_unit(table, (const uint8_t[]){0, 0x89}, 2, NULL, 0), APS_UNEXPECTED_END);
+    check("another type", aps_take_unit(table, (const uint8_t[]){0, 9}, 2, NULL, 0), APS_PASSED_OVER);
+    check("no work buffer", aps_take_unit(table, units[0], unit_len[0], NULL, 0), APS_OUTPUT_TOO_SHORT);
+    check("an empty list", aps_write_list(table, NULL, 0, len), 0);
+    check("of no bytes", (long long)len[0], 0);
+    check("no header", aps_parse_nal_header(NULL, 0, header), APS_UNEXPECTED_END);
+    check("header kept", header[0] == 9 && header[4] == 9, 1);
+    len[0] = 77;
+    check("no RBSP", aps_head_parse_rbsp(NULL, 0, &head, len), APS_UNEXPECTED_END);
+    check("no unit's head", aps_head_parse(NULL, 0, NULL, 0, &head, len), APS_UNEXPECTED_END);
+    check("head kept", untouched(&head, 0, sizeof head), 1);
+    check("no rewrite", aps_rewrite(NULL, 0, NULL, 0, len), APS_UNEXPECTED_END);
+    for (int i = 0; i < 3; i++) {
+        const calls *k = &kinds[i];
+        uint8_t *set = lend(k->size);
+
+        check("no RBSP of a kind", k->parse_rbsp(NULL, 0, set, len), APS_UNEXPECTED_END);
+        check("no unit of a kind", k->parse(NULL, 0, NULL, 0, set, len), APS_UNEXPECTED_END);
+        check("no work for a kind", k->parse(units[i], unit_len[i], NULL, 0, set, len), APS_OUTPUT_TOO_SHORT);
+        check("no end", k->end(NULL, 0, len), APS_UNEXPECTED_END);
+        check("no rewrite of a kind", k->rewrite(NULL, 0, NULL, 0, len), APS_UNEXPECTED_END);
+        check("no room for it", k->rewrite(rbsps[i], rbsp_len[i], NULL, 0, len), APS_OUTPUT_TOO_SHORT);
+        check("no room to rewrite", aps_rewrite(rbsps[i], rbsp_len[i], NULL, 0, len), APS_OUTPUT_TOO_SHORT);
+        check("no room to write", k->write(full[i], NULL, 0, len), APS_OUTPUT_TOO_SHORT);
+        check("no room for a unit", k->write_nal(full[i], 18, NULL, 0, len), APS_OUTPUT_TOO_SHORT);
+        check("no unit of a type 0", k->write_nal(full[i], 0, NULL, 0, len), APS_INVALID_DATA);
+        check("set kept", untouched(set, 0, k->size), 1);
+        free(set);
+    }
+    check("length kept", (long long)len[0], 77);
+    check("nothing unescaped", aps_ebsp_to_rbsp(NULL, 0, NULL, 0, len), 0);
+    check("no byte of it", (long long)len[0], 0);
+    len[0] = 77;
+    check("nothing escaped", aps_rbsp_to_ebsp(NULL, 0, NULL, 0, len), 0);
+    check("no byte of that", (long long)len[0], 0);
+    free(table);
+}
+
+/* ---- lengths one short and one too long */
+
+static void one_short(void)
+{
+    for (int i = 0; i < 3; i++) {
+        const calls *k = &kinds[i];
+        uint8_t *table = lend(APS_TABLE_BYTES), *out = lend(unit_len[i] - 1), *stream = lend(unit_len[i] + 3);
+        uint64_t len[1] = {77}, counts[3] = {9, 9, 9};
+        uint32_t code = k->write_nal(full[i], 17, out, unit_len[i] - 1, len);
+        size_t list_len, escaped = unit_len[i] - 2;
+
+        written("a unit one short", code, APS_OUTPUT_TOO_SHORT, out, unit_len[i] - 1, len[0]);
+        code = aps_rbsp_to_ebsp(rbsps[i], rbsp_len[i], out, escaped - 1, len);
+        written("escapes one short", code, APS_OUTPUT_TOO_SHORT, out, unit_len[i] - 1, len[0]);
+        code = aps_ebsp_to_rbsp(units[i] + 2, escaped, out, rbsp_len[i] - 1, len);
+        written("no escapes, one short", code, APS_OUTPUT_TOO_SHORT, out, unit_len[i] - 1, len[0]);
+        free(out);
+
+        aps_table_new(table);
+        memcpy(stream, (const uint8_t[]){0, 0, 1}, 3);
+        memcpy(stream + 3, units[i], unit_len[i]);
+        out = lend(unit_len[i] + 3);
+        code = aps_take_stream(table, stream, unit_len[i] + 3, out, unit_len[i] + 2, counts);
+        check("a stream's work buffer", code, APS_OUTPUT_TOO_SHORT);
+        check("counts kept", counts[0] == 9 && counts[1] == 9 && counts[2] == 9, 1);
+        check("work kept", untouched(out, 0, unit_len[i] + 3), 1);
+        code = aps_take_stream(table, stream, unit_len[i] + 2, out, unit_len[i] + 3, counts);
+        check("a stream cut off", code, 0);
+        check("its unit refused", counts[0] == 0 && counts[1] == 1 && counts[2] == 0, 1);
+        free(write_list(table, &list_len));
+        check("no set of it", (long long)list_len, 0);
+        check("a whole stream", aps_take_stream(table, stream, unit_len[i] + 3, out, unit_len[i] + 3, counts), 0);
+        check("its unit taken", counts[0] == 1 && counts[1] == 0 && counts[2] == 0, 1);
+        check("its RBSP", same(out, rbsps[i], rbsp_len[i]), 1);
+        free(write_list(table, &list_len));
+        check("a list of one", (long long)list_len, (long long)unit_len[i] + 4);
+        look_up_all(table);
+
+        for (size_t bytes = 0; bytes < 3; bytes++) {
+            check("hardly a unit", read_unit(units[i], bytes, table).code, APS_UNEXPECTED_END);
+        }
+        check("cut off", read_rbsp(rbsps[i], rbsp_len[i] - 1).code, APS_UNEXPECTED_END);
+        check("whole", read_rbsp(rbsps[i], rbsp_len[i]).code, 0);
+        check("a unit cut off", read_unit(units[i], unit_len[i] - 1, table).code, APS_UNEXPECTED_END);
+        check("a whole unit", read_unit(units[i], unit_len[i], table).code, 0);
+        free(out);
+        free(stream);
+        free(table);
+    }
+}
+
+static void too_long(void)
+{
+    enum { LONG = APS_LONGEST_INPUT + 1 };
+    uint8_t *table = lend(APS_TABLE_BYTES), *bytes = lend(LONG), *out = lend(2 * LONG), header[5];
+    uint64_t counts[3], len[1] = {77};
+    aps_head head;
+
+    aps_table_new(table);
+    memset(bytes, 0, LONG);
+    for (int first = 0; first < 256; first += 32) {
+        bytes[0] = bytes[2] = (uint8_t)first;
+        bytes[1] = 0x89;
+        check("long stream", aps_take_stream(table, bytes, LONG, out, 2 * LONG, counts), APS_INPUT_TOO_LONG);
+        check("long unit", aps_take_unit(table, bytes, LONG, out, 2 * LONG), APS_INPUT_TOO_LONG);
+        check("long header", aps_parse_nal_header(bytes, LONG, header), APS_INPUT_TOO_LONG);
+        check("long head", aps_head_parse_rbsp(bytes, LONG, &head, len), APS_INPUT_TOO_LONG);
+        check("long unit's head", aps_head_parse(bytes, LONG, out, 2 * LONG, &head, len), APS_INPUT_TOO_LONG);
+        check("long rewrite", aps_rewrite(bytes, LONG, out, 2 * LONG, len), APS_INPUT_TOO_LONG);
+        check("long escapes", aps_rbsp_to_ebsp(bytes, LONG, out, 2 * LONG, len), APS_INPUT_TOO_LONG);
+        check("long without escapes", aps_ebsp_to_rbsp(bytes, LONG, out, 2 * LONG, len), APS_INPUT_TOO_LONG);
+        for (int i = 0; i < 3; i++) {
+            const calls *k = &kinds[i];
+            uint8_t *set = lend(k->size);
+
+            check("long RBSP", k->parse_rbsp(bytes, LONG, set, len), APS_INPUT_TOO_LONG);
+            check("long unit of a kind", k->parse(bytes, LONG, out, 2 * LONG, set, len), APS_INPUT_TOO_LONG);
+            check("long end", k->end(bytes, LONG, len), APS_INPUT_TOO_LONG);
+            check("long rewrite of a kind", k->rewrite(bytes, LONG, out, 2 * LONG, len), APS_INPUT_TOO_LONG);
+            free(set);
+        }
+        check("nothing of it", untouched(out, 0, 2 * LONG) && len[0] == 77, 1);
+    }
+    memset(bytes, 0, LONG);
+    check("as long as is taken", aps_take_stream(table, bytes, APS_LONGEST_INPUT, out, APS_LONGEST_INPUT, counts), 0);
+    free(table);
+    free(bytes);
+    free(out);
+}
+
+/* ---- flags that are neither 0 nor 1 */
+
+static void write_all(const calls *k, const uint8_t *set, uint32_t due)
+{
+    uint8_t *out = lend(ROOM);
+
+    for (int type = 15; type < 21; type++) {
+        uint64_t len[1] = {77};
+        uint32_t code = k->write_nal(set, (uint8_t)type, out, ROOM, len);
+
+        written("a unit of it", code, type == 17 || type == 18 ? due : APS_INVALID_DATA, out, ROOM, len[0]);
+        memset(out, UNTOUCHED, ROOM);
+        len[0] = 77;
+        code = k->write(set, out, ROOM, len);
+        written("an RBSP of it", code, due, out, ROOM, len[0]);
+        memset(out, UNTOUCHED, ROOM);
+    }
+    free(out);
+}
+
+static void wrong_flags(void)
+{
+    for (int i = 0; i < 3; i++) {
+        const calls *k = &kinds[i];
+        uint8_t *set = lend_copy(full[i], k->size);
+
+        write_all(k, set, 0);
+        set[k->extension] = 1;
+        write_all(k, set, APS_UNSUPPORTED);
+        set[k->extension] = 0;
+        for (const range *r = k->flags; r->len; r++) {
+            for (size_t at = r->at; at < r->at + r->len; at++) {
+                uint8_t before = set[at];
+
+                set[at] = 2;
+                write_all(k, set, APS_INVALID_DATA);
+                if (at != k->extension) {
+                    set[k->extension] = 1;
+                    write_all(k, set, APS_UNSUPPORTED);
+                    set[k->extension] = 0;
+                }
+                set[at] = 255;
+                write_all(k, set, APS_INVALID_DATA);
+                set[at] = before;
+            }
+        }
+        write_all(k, set, 0);
+        free(set);
+    }
+}
+
+/* ---- random bytes */
+
+static uint64_t seed = UINT64_C(0x123456789ABCDEF1);
+
+/* A number below an end, by a xorshift. */
+static size_t below(size_t end)
+{
+    seed ^= seed << 13;
+    seed ^= seed >> 7;
+    seed ^= seed << 17;
+    return (size_t)(seed >> 16) % end;
+}
+
+static void randomly(uint8_t *bytes, size_t len)
+{
+    for (size_t i = 0; i < len; i++) {
+        bytes[i] = (uint8_t)below(256);
+    }
+}
+
+/* Random bytes that mostly name a kind, or a set's with up to two bits flipped and sometimes cut off; how many. */
+static size_t random_rbsp(uint8_t bytes[RBSP])
+{
+    size_t len, set = below(6);
+
+    if (below(4) == 0) {
+        len = below(200);
+        randomly(bytes, len);
+        if (len && below(3)) {
+            bytes[0] &= 0x5F;
+        }
+        return len;
+    }
+    len = rbsp_len[set];
+    memcpy(bytes, rbsps[set], len);
+    for (size_t flips = below(3); flips; flips--) {
+        size_t bit = below(len * 8);
+
+        bytes[bit / 8] ^= (uint8_t)(1 << bit % 8);
+    }
+    return below(4) ? len : below(len);
+}
+
+/* A unit of such bytes, mostly of type 17 or 18 and with escapes. */
+static size_t random_unit(uint8_t unit[ROOM + 2])
+{
+    static uint8_t rbsp[RBSP];
+    static const uint8_t second[4] = {0x89, 0x91, 0x90, 0x8F};
+    size_t len = random_rbsp(rbsp);
+
+    unit[0] = (uint8_t)below(256);
+    unit[1] = below(8) ? second[below(4)] : (uint8_t)below(256);
+    if (below(3)) {
+        uint64_t escaped[1] = {0};
+
+        check("escapes", aps_rbsp_to_ebsp(rbsp, len, unit + 2, ROOM, escaped), 0);
+        check("at most half more", escaped[0] <= len + len / 2, 1);
+        return 2 + (size_t)escaped[0];
+    }
+    memcpy(unit + 2, rbsp, len);
+    return 2 + len;
+}
+
+static void random_escapes(void)
+{
+    uint8_t src[40], *bytes, *ebsp, *rbsp;
+    uint64_t len[1], back[1];
+    size_t n = below(sizeof src);
+
+    for (size_t i = 0; i < n; i++) {
+        static const uint8_t often[4] = {0, 0, 3, 1};
+
+        src[i] = below(3) ? often[below(4)] : (uint8_t)below(256);
+    }
+    bytes = lend_copy(src, n);
+    ebsp = lend(n + n / 2);
+    rbsp = lend(n);
+    check("escaped", aps_rbsp_to_ebsp(bytes, n, ebsp, n + n / 2, len), 0);
+    check("rest of the escaped", untouched(ebsp, len[0], n + n / 2), 1);
+    check("unescaped", aps_ebsp_to_rbsp(ebsp, len[0], rbsp, n, back), 0);
+    check("as many", (long long)back[0], (long long)n);
+    check("as before", same(rbsp, bytes, n), 1);
+    check("any bytes unescaped", aps_ebsp_to_rbsp(bytes, n, rbsp, n, back), 0);
+    check("no more than before", back[0] <= n, 1);
+    free(bytes);
+    free(ebsp);
+    free(rbsp);
+}
+
+static void random_stream(uint8_t *table)
+{
+    static uint8_t made[8 * (ROOM + 6)];
+    uint8_t *stream, *work, *before = lend_copy(table, APS_TABLE_BYTES), *second = lend(APS_TABLE_BYTES), *list;
+    uint64_t counts[3] = {9, 9, 9};
+    size_t len = 0, list_len, units_in = below(6);
+    uint32_t code;
+
+    if (below(8) == 0) {
+        len = below(9);
+        randomly(made, len);
+    }
+    for (size_t i = 0; i < units_in; i++) {
+        memcpy(made + len, (const uint8_t[]){0, 0, 0, 1}, 4);
+        len += 4;
+        len += random_unit(made + len);
+    }
+    stream = lend_copy(made, len);
+    work = lend(len);
+    code = aps_take_stream(table, stream, len, work, len, counts);
+    check("a random stream", code == 0 || code == APS_INVALID_DATA, 1);
+    if (code) {
+        check("a table that stays", same(table, before, APS_TABLE_BYTES), 1);
+        check("a work buffer that stays", untouched(work, 0, len), 1);
+        check("counts that stay", counts[0] == 9 && counts[1] == 9 && counts[2] == 9, 1);
+    }
+    free(stream);
+    free(work);
+
+    look_up_all(table);
+    list = write_list(table, &list_len);
+    aps_table_new(second);
+    work = lend(list_len);
+    check("a list taken", aps_take_stream(second, list, list_len, work, list_len, counts), 0);
+    check("all of it", counts[1] == 0 && counts[2] == 0, 1);
+    look_up_all(second);
+    free(work);
+    free(list);
+    free(before);
+    free(second);
+    if (below(16) == 0) {
+        aps_table_new(table);
+    }
+}
+
+/* Any bytes as a table, a full one with bits flipped among them. */
+static void random_table(void)
+{
+    static uint8_t unit[ROOM + 2];
+    uint8_t *table = lend(APS_TABLE_BYTES);
+    size_t len;
+
+    if (below(3)) {
+        uint8_t *work = lend(ROOM);
+
+        aps_table_new(table);
+        for (int i = 0; i < 3; i++) {
+            check("a unit into it", aps_take_unit(table, units[i], unit_len[i], work, ROOM), 0);
+        }
+        free(work);
+        for (size_t flips = below(400); flips; flips--) {
+            size_t bit = below(APS_TABLE_BYTES * 8);
+
+            table[bit / 8] ^= (uint8_t)(1 << bit % 8);
+        }
+    } else {
+        randomly(table, APS_TABLE_BYTES);
+    }
+    look_up_all(table);
+    free(write_list(table, &len));
+    len = random_unit(unit);
+    read_unit(unit, len, table);
+    look_up_all(table);
+    free(table);
+}
+
+/* A struct of random bytes, or a full one with one, its flags mostly 0 or 1: refused, or written and read again. */
+static void random_set(const calls *k, const void *full_set)
+{
+    uint8_t *set = lend_copy(full_set, k->size), *out = lend(ROOM), *again = lend(k->size);
+    uint64_t len[1] = {77}, end[1] = {77};
+    uint32_t code;
+
+    if (below(2)) {
+        randomly(set, k->size);
+    } else {
+        set[below(k->size)] = (uint8_t)below(256);
+    }
+    if (below(4)) {
+        for (const range *r = k->flags; r->len; r++) {
+            for (size_t i = 0; i < r->len; i++) {
+                set[r->at + i] &= 1;
+            }
+        }
+    }
+    code = k->write(set, out, ROOM, len);
+    if (set[k->extension] == 1) {
+        check("an extension", code, APS_UNSUPPORTED);
+    } else if (!are_flags(k, set)) {
+        check("a flag", code, APS_INVALID_DATA);
+    } else {
+        check("written or not", code == 0 || code == APS_INVALID_DATA, 1);
+    }
+    written("a random set", code, code, out, ROOM, len[0]);
+    if (code == 0) {
+        check("read again", k->parse_rbsp(out, len[0], again, end), 0);
+        check("to its end", (long long)end[0], (long long)len[0] * 8);
+        read_rbsp(out, len[0]);
+    }
+    write_all(k, set, code);
+    free(set);
+    free(out);
+    free(again);
+}
+
+static void at_random(long rounds)
+{
+    static uint8_t rbsp[RBSP], unit[ROOM + 2];
+    uint8_t *table = lend(APS_TABLE_BYTES);
+    long taken = 0, refused = 0;
+
+    aps_table_new(table);
+    for (long i = 0; i < rounds; i++) {
+        size_t len = random_rbsp(rbsp);
+
+        *(read_rbsp(rbsp, len).code ? &refused : &taken) += 1;
+        len = random_unit(unit);
+        *(read_unit(unit, len, table).code ? &refused : &taken) += 1;
+        random_escapes();
+        if (i % 4 == 0) {
+            random_stream(table);
+            random_set(&kinds[i / 4 % 3], full[i / 4 % 3]);
+        }
+        if (i % 16 == 0) {
+            random_table();
+        }
+    }
+    check("some taken", taken > rounds / 4, 1);
+    check("some refused", refused > rounds / 4, 1);
+    free(table);
+}
+
+int main(int argc, char **argv)
+{
+    fill_sets();
+    write_sets();
+    nothing();
+    one_short();
+    too_long();
+    wrong_flags();
+    at_random(argc > 1 ? atol(argv[1]) : 2000);
+    if (failures == 0) {
+        puts("every argument is answered as the header says");
+    }
+    return failures != 0;
+}
