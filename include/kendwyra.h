@@ -104,11 +104,14 @@ void aps_table_new(uint8_t table[APS_TABLE_BYTES]);
 
 /* A stream in the byte stream form: how many units were accepted, refused and passed over. 4; 2; 5: the work buffer is
  * shorter than the stream. The work buffer starts with the RBSP of the last APS unit that was read; a refused stream
- * leaves it and the table as they were. */
+ * leaves it and the table as they were. Units that are refused are counted; one with a damaged RBSP empties a place, as
+ * below. */
 uint32_t aps_take_stream(uint8_t table[APS_TABLE_BYTES], const uint8_t *bytes, size_t len, uint8_t *work, size_t room,
                          uint64_t counts[3]);
 
-/* A unit alone, without a start code: 0, APS_PASSED_OVER or a refusal. 5: the work buffer is shorter than the unit less 2. */
+/* A unit alone, without a start code: 0, APS_PASSED_OVER or a refusal. 5: the work buffer is shorter than the unit less 2.
+ * A unit that is refused with 1 or 2 after its header empties the place that its RBSP's first byte names (kind * 32 + id):
+ * what it should have replaced is out of date. */
 uint32_t aps_take_unit(uint8_t table[APS_TABLE_BYTES], const uint8_t *unit, size_t len, uint8_t *work, size_t room);
 
 /* Of the set held for a kind and an id the kind, the id and the flags. 2: they name no place; 6: the place is empty. */

@@ -60,7 +60,7 @@ fn main() -> ExitCode {
     speed::print(&times);
     calls::print(&calls);
     let answers = calls.iter().map(|row| &row.answers);
-    if rows.iter().chain(answers).any(|row| row.differences > 0) {
+    if rows.iter().chain(answers).any(|row| row.differences > 0 || row.cases == 0) {
         return ExitCode::FAILURE;
     }
     ExitCode::SUCCESS

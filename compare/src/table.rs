@@ -10,7 +10,7 @@ use crate::library::table::Table;
 use crate::tally::Tally;
 
 pub fn compare() -> Vec<Tally> {
-    let mut rows = vec![streams::every_short_stream()];
+    let mut rows = Vec::from(streams::every_short_stream());
     rows.extend(sequences::random_sequences());
     rows
 }
@@ -31,13 +31,19 @@ impl Both {
         }
     }
 
-    /// A unit alone: the answer, and every byte of the work buffer.
+    /// A unit alone: the answer, whether a refusal changed the table, and every byte of the work buffer.
     fn unit(&mut self, t: &mut Tally, number: u64, unit: &[u8], work: &[u8]) {
         let (mut after, mut expected) = (work.to_vec(), work.to_vec());
         t.same(
             || format!("sequence {number}: unit {unit:02X?} with {} bytes of work", work.len()),
             (self.library.take_unit(unit, &mut after), after),
-            (self.expected.take_unit(unit, &mut expected), expected),
+            (
+                (
+                    self.expected.take_unit(unit, &mut expected),
+                    !self.expected.emptied.is_empty(),
+                ),
+                expected,
+            ),
         );
     }
 
@@ -54,6 +60,13 @@ impl Both {
             (self.library.take_stream(stream, &mut after), after),
             (self.expected.take_stream(stream, &mut expected), expected),
         );
+    }
+
+    /// A lookup of each place that the last call emptied of a set: 6, unless a later unit of a stream filled it again.
+    fn emptied(&mut self, t: &mut Tally, lent: &mut Lent, number: u64) {
+        for name in std::mem::take(&mut self.expected.emptied) {
+            self.lookup(t, lent, number, name);
+        }
     }
 
     /// Every number of the set held for a kind and an id, or the refusal.

@@ -2,7 +2,7 @@
 
 use std::fmt;
 
-/// A refusal; it leaves outputs and tables as they were.
+/// A refusal; it leaves outputs and tables as they were, but for a damaged unit (`Table::take_unit`).
 #[derive(Debug, Clone, Copy, PartialEq, Eq, Hash)]
 #[repr(u32)]
 pub enum Refusal {

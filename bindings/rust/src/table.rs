@@ -38,7 +38,8 @@ impl Table {
         Table(bytes)
     }
 
-    /// Takes the units of a stream in the byte stream form, in order; `work` has at least the stream's length.
+    /// Takes the units of a stream in the byte stream form, in order; `work` has at least the stream's length. Damaged units empty places, as
+    /// `take_unit` says.
     pub fn take_stream(&mut self, bytes: &[u8], work: &mut [u8]) -> Result<Counts, Refusal> {
         let mut counts = [0; 3];
         let (from, len) = (bytes.as_ptr(), bytes.len());
@@ -53,7 +54,8 @@ impl Table {
         })
     }
 
-    /// Takes a unit alone; `work` has at least the unit's length less 2.
+    /// Takes a unit alone; `work` has at least the unit's length less 2. A unit that is refused with `UnexpectedEnd` or `InvalidData` after its
+    /// header empties the place that its RBSP's first byte names: what it should have replaced is out of date.
     pub fn take_unit(&mut self, unit: &[u8], work: &mut [u8]) -> Result<Taken, Refusal> {
         let (to, room) = (work.as_mut_ptr(), work.len());
         // SAFETY: both pointers are those of slices, with their own lengths, and the slices don't overlap.
@@ -63,7 +65,7 @@ impl Table {
         }
     }
 
-    /// The set held for a kind and an id: that of the last unit accepted for them.
+    /// The set held for a kind and an id: that of the last unit that named them, if it was accepted.
     pub fn lookup(&self, kind: Kind, id: u8) -> Result<Aps, Refusal> {
         match kind {
             Kind::Alf => self.alf(id).map(Aps::Alf),

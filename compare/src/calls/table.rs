@@ -137,6 +137,7 @@ fn typical_sets() -> Row {
         let room = stream.len() - usize::from(case % 10 == 4);
         both.stream(&mut t, &stream, room);
     }
+    assert!(!both.model.emptied.is_empty(), "damaged sets empty places");
     both.row(t, &filling(&mut random, Style::Typical, None))
 }
 

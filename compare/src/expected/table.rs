@@ -1,11 +1,12 @@
-//! The table: 20 places, each with the set last accepted for it as the Rust's `parse_aps` reads it, and their list by
-//! `write_aps_nal`.
+//! The table: 20 places, each with the set last accepted for it as the Rust's `parse_aps` reads it, unless a damaged unit has named the
+//! place since, and their list by `write_aps_nal`.
 
 use super::{document, number, sets};
 use crate::h266::aps::{self, VvcAps};
 use crate::h266::{self, NAL_TYPE_PREFIX_APS};
 use crate::library::sets::Numbers;
 use crate::library::table::Taken;
+use crate::nal;
 
 /// Ids of each kind: ALF 0 to 7, LMCS 0 to 3, scaling 0 to 7.
 const IDS: [u8; 3] = [8, 4, 8];
@@ -48,12 +49,22 @@ fn is_passed_over(unit: &[u8]) -> bool {
     h266::parse_nal_header(unit).is_ok_and(|header| !sets::is_aps(header.nal_unit_type))
 }
 
+/// The kind and the id that a damaged APS unit names: refused with 1 or 2 after its header, and with a byte in its RBSP. That byte has the
+/// kind in three bits, then the id in five.
+fn damaged(unit: &[u8], refusal: u32) -> Option<(u8, u8)> {
+    let body = unit.get(2..)?;
+    let first = *nal::ebsp_to_rbsp(body).first()?;
+    (refusal == 1 || refusal == 2).then_some((first / 32, first % 32))
+}
+
 #[derive(Clone, PartialEq)]
 pub struct Table {
     /// In the order of their names.
     places: [Option<VvcAps>; 20],
     /// Whether missing bits are looked for, which takes time that is not the Rust's.
     pub looking: bool,
+    /// The places that held a set when a damaged unit emptied them, until a caller takes this list.
+    pub emptied: Vec<(u8, u8)>,
 }
 
 impl Table {
@@ -61,19 +72,37 @@ impl Table {
         Table {
             places: [const { None }; 20],
             looking: true,
+            emptied: Vec::new(),
         }
     }
 
-    /// 4; 1; passed over; 5; then as `parse_aps`, but 1 where a bit is missing.
+    /// 4; 1; passed over; 5; then as `parse_aps`, but 1 where a bit is missing. A damaged unit is refused too, and empties a place.
     pub fn take_unit(&mut self, unit: &[u8], work: &mut [u8]) -> Result<Taken, u32> {
         document::escape(unit.len())?;
         if is_passed_over(unit) {
             return Ok(Taken::PassedOver);
         }
-        let set = sets::read_unit(unit, work, self.looking)?;
-        let place = place(set.aps_params_type, set.aps_adaptation_parameter_set_id);
-        self.places[place.expect("a set that was read has a place")] = Some(set);
-        Ok(Taken::Accepted)
+        match sets::read_unit(unit, work, self.looking) {
+            Ok(set) => {
+                let place = place(set.aps_params_type, set.aps_adaptation_parameter_set_id);
+                self.places[place.expect("a set that was read has a place")] = Some(set);
+                Ok(Taken::Accepted)
+            }
+            Err(refusal) => {
+                if let Some((kind, id)) = damaged(unit, refusal) {
+                    self.empty(kind, id);
+                }
+                Err(refusal)
+            }
+        }
+    }
+
+    /// A kind or an id that is too large has no place to empty.
+    fn empty(&mut self, kind: u8, id: u8) {
+        let Some(place) = place(kind, id) else { return };
+        if self.places[place].take().is_some() {
+            self.emptied.push((kind, id));
+        }
     }
 
     /// How many units were accepted, refused and passed over. 4; 2; 5.

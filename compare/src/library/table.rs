@@ -45,9 +45,9 @@ impl Table {
         self.0
     }
 
-    /// The code of a call that changes the table exactly where it answers 0.
-    fn code(&self, code: u32, before: &Table) -> u32 {
-        let kept = if code == 0 {
+    /// The code of a call, which may change the table or must leave it as it was.
+    fn code(&self, code: u32, before: &Table, may_change: bool) -> u32 {
+        let kept = if may_change {
             self.0[TABLE_BYTES..] == AFTER
         } else {
             self == before
@@ -59,14 +59,15 @@ impl Table {
         }
     }
 
-    pub fn take_unit(&mut self, unit: &[u8], work: &mut [u8]) -> Result<Taken, u32> {
+    /// The answer, and whether the table changed although the unit was refused, as it may with 1 and 2.
+    pub fn take_unit(&mut self, unit: &[u8], work: &mut [u8]) -> (Result<Taken, u32>, bool) {
         let before = self.clone();
         let table = front(&mut self.0);
         let code = unsafe { raw::aps_take_unit(table, unit.as_ptr(), unit.len(), work.as_mut_ptr(), work.len()) };
-        match self.code(code, &before) {
-            0 => Ok(Taken::Accepted),
-            PASSED_OVER => Ok(Taken::PassedOver),
-            code => Err(code),
+        match self.code(code, &before, code <= 2) {
+            0 => (Ok(Taken::Accepted), false),
+            PASSED_OVER => (Ok(Taken::PassedOver), false),
+            code => (Err(code), *self != before),
         }
     }
 
@@ -76,7 +77,7 @@ impl Table {
         let mut counts = [MARK; 4];
         let (table, to, room) = (front(&mut self.0), work.as_mut_ptr(), work.len());
         let code = unsafe { raw::aps_take_stream(table, bytes.as_ptr(), bytes.len(), to, room, front(&mut counts)) };
-        match (self.code(code, &before), counts) {
+        match (self.code(code, &before, code == 0), counts) {
             (0, [accepted, refused, passed, MARK]) => Ok([accepted, refused, passed]),
             (code, [MARK, MARK, MARK, MARK]) => Err(code),
             (code, _) => Err(ARRAY_CHANGED + code),

@@ -101,9 +101,24 @@ impl Bytes {
                 set.extend(self.random.bytes(more));
             }
             7 => return MARKED[self.random.below(MARKED.len())].to_vec(),
+            8 => set.truncate(1),
+            9 => self.rename(&mut set),
+            10 => {
+                self.rename(&mut set);
+                set.truncate(1 + self.random.below(set.len()));
+            }
             _ => (),
         }
         set
+    }
+
+    /// Another kind and id before the same bits: any, an id that is 8, 16 or 24 too large, or a kind from 3 to 7.
+    fn rename(&mut self, set: &mut [u8]) {
+        set[0] = match self.random.below(3) {
+            0 => self.random.next() as u8,
+            1 => set[0] + 8 * (1 + self.random.below(3) as u8),
+            _ => 32 * (3 + self.random.below(5) as u8) + set[0] % 32,
+        };
     }
 
     /// The two bytes of a header, of which only the type is judged.

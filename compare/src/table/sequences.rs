@@ -10,7 +10,7 @@ use kendwyra::TABLE_BYTES;
 
 const SEQUENCES: u64 = 150_000;
 
-pub fn random_sequences() -> [Tally; 6] {
+pub fn random_sequences() -> [Tally; 7] {
     let mut sequences = Sequences::new();
     (0..SEQUENCES).for_each(|_| sequences.one());
     sequences.rows()
@@ -28,6 +28,7 @@ struct Sequences {
     number: u64,
     units: Tally,
     streams: Tally,
+    emptied: Tally,
     lookups: Tally,
     lists: Tally,
     read_again: Tally,
@@ -47,6 +48,7 @@ impl Sequences {
             number: 0,
             units: Tally::new("sequences: units alone"),
             streams: Tally::new("sequences: streams"),
+            emptied: Tally::new("sequences: places emptied"),
             lookups: Tally::new("sequences: lookups"),
             lists: Tally::new("sequences: lists at a cut"),
             read_again: Tally::new("sequences: lists read into a new table"),
@@ -54,10 +56,11 @@ impl Sequences {
         }
     }
 
-    fn rows(self) -> [Tally; 6] {
+    fn rows(self) -> [Tally; 7] {
         [
             self.units,
             self.streams,
+            self.emptied,
             self.lookups,
             self.lists,
             self.read_again,
@@ -140,6 +143,7 @@ impl Sequences {
         let work = self.filled(room);
         for both in tables {
             both.unit(&mut self.units, self.number, unit, &work);
+            both.emptied(&mut self.emptied, &mut self.lent, self.number);
         }
     }
 
@@ -148,6 +152,7 @@ impl Sequences {
         let work = self.filled(room);
         for both in tables {
             both.stream(&mut self.streams, self.number, stream, &work);
+            both.emptied(&mut self.emptied, &mut self.lent, self.number);
         }
     }
 

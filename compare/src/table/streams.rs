@@ -1,6 +1,7 @@
 //! Every short stream.
 
 use super::Both;
+use crate::library::sets::Lent;
 use crate::tally::Tally;
 use kendwyra::TABLE_BYTES;
 
@@ -11,8 +12,10 @@ const FILLER: [u8; 8] = [0xA5, 0x5A, 0xC3, 0x3C, 0xE1, 0x1E, 0x87, 0x78];
 const LETTERS: [u8; 5] = [0x00, 0x01, 0x03, 0x10, 0x89];
 
 /// One table takes them all. Work buffers just long enough, and one byte less.
-pub fn every_short_stream() -> Tally {
+pub fn every_short_stream() -> [Tally; 2] {
     let mut t = Tally::new("streams: every one of up to 8 of five bytes");
+    let mut emptied = Tally::new("streams: places emptied by them");
+    let mut lent = Lent::new();
     let mut both = Both::new(&[0; TABLE_BYTES]);
     for len in 0..=8 {
         for n in 0..LETTERS.len().pow(len) {
@@ -20,8 +23,9 @@ pub fn every_short_stream() -> Tally {
             let stream: Vec<u8> = digits.map(|digit| LETTERS[digit]).collect();
             for room in [stream.len(), stream.len().saturating_sub(1)] {
                 both.stream(&mut t, 0, &stream, &FILLER[..room]);
+                both.emptied(&mut emptied, &mut lent, 0);
             }
         }
     }
-    t
+    [t, emptied]
 }

@@ -1,4 +1,4 @@
--- Laws of the book: the last unit accepted is in force, and books that agree go on agreeing.
+-- Laws of the book: the last unit that named a place decides, and books that agree go on agreeing.
 use Prim.Native.Nat.{ℕ, zero, suc, ◌+◌, ◌≤◌, ◌<◌}
 use mathlib.Core.Path.{◌≡◌, refl, sym, ap, ◌∙◌}
 use mathlib.Core.Bool.{Bool, true, false, cond, ◌&&◌, ◌||◌, or-true}
@@ -12,10 +12,10 @@ use Rattle.bitstream.specs.Outcome.{Outcome, value, refused}
 use Rattle.aps.specs.Kinds.{largest_id}
 use Rattle.aps.specs.declared.aps.VvcAps.{VvcAps}
 use Rattle.aps_table.specs.Places.{Names, ids, names, filled_among, Entries, kind_in, id_in, extended}
-use Rattle.aps_table.specs.Taking.{Verdict, accept, pass, refuse, verdict}
+use Rattle.aps_table.specs.Taking.{Verdict, accept, pass, damage, refuse, verdict}
 use Rattle.aps_table.specs.Calls.{Call, stream, alone, units_taken}
 use Rattle.aps_table.specs.List.{is_extended, any_extended, listed, list_due}
-use Rattle.aps_table.specs.Book.{no_entries, note, note_units, note_taken, enter, enters, book, got, got_units, got_taken, sets_accepted, or_else, last, last_accepted}
+use Rattle.aps_table.specs.Book.{no_entries, replace, note, note_units, note_taken, enter, enters, book, Naming, naming, naming_units, naming_taken, namings, of_place, last, last_named}
 
 -- ---- the 20 names
 
@@ -71,43 +71,60 @@ all-names =
     names-append (ids 0 0 (largest_id 0 + 1)) _ (names-ids 0 0 (largest_id 0 + 1) (omega arith) (omega arith))
     (names-append (ids 1 0 (largest_id 1 + 1)) _ (names-ids 1 0 (largest_id 1 + 1) (omega arith) (omega arith)) (names-ids 2 0 (largest_id 2 + 1) (omega arith) (omega arith)))
 
--- ---- the last unit accepted
+-- ---- the last unit that named a place
 
-last-got : (k i : ℕ) (v : Verdict) (l : List VvcAps) (b : Entries) → or_else (last k i (got v l)) (b k i) ≡ or_else (last k i l) (note v b k i)
+-- the last of a list, or what came before it
+abbrev or_last : List (Option VvcAps) → Option VvcAps → Option VvcAps
+or_last [] o = o
+or_last (p ∷ l) o = last (p ∷ l)
+
+last-cons : (l : List (Option VvcAps)) (o x : Option VvcAps) → or_last (o ∷ l) x ≡ or_last l o
 unfolding last
-last-got k i (accept a q) l b = go (last k i l) (eqb k (kind_in a) && eqb i (id_in a))
-  where
-    go : (o : Option VvcAps) (t : Bool) → or_else (or_else o (cond t (some a) none)) (b k i) ≡ or_else o (cond t (some a) (b k i))
-    go none true = refl
-    go none false = refl
-    go (some x) t = refl
-last-got k i pass l b = refl
-last-got k i (refuse n) l b = refl
+last-cons [] o x = refl
+last-cons (p ∷ l) o x = refl
 
-last-units : (k i room : ℕ) (us : List (List ℕ)) (l : List VvcAps) (b : Entries)
-    → or_else (last k i (got_units room us l)) (b k i) ≡ or_else (last k i l) (note_units room us b k i)
-unfolding got_units note_units
-last-units k i room [] l b = refl
-last-units k i room (u ∷ us) l b = last-got k i (verdict u room) (got_units room us l) b ∙ last-units k i room us l (note (verdict u room) b)
+last-none : (l : List (Option VvcAps)) → or_last l none ≡ last l
+unfolding last
+last-none [] = refl
+last-none (o ∷ l) = refl
 
-last_taken : (k i room : ℕ) (r : Outcome (List (List ℕ))) (l : List VvcAps) (b : Entries)
-    → or_else (last k i (got_taken room r l)) (b k i) ≡ or_else (last k i l) (note_taken room r b k i)
-last_taken k i room (value us n) l b = last-units k i room us l b
-last_taken k i room (refused n) l b = refl
+module _ (k i : ℕ) where
+  -- one unit more that names a place
+  last-one : (l j : ℕ) (o : Option VvcAps) (es : List Naming) (b : Entries)
+      → or_last (of_place k i (((l, j), o) ∷ es)) (b k i) ≡ or_last (of_place k i es) (replace l j o b k i)
+  unfolding of_place
+  last-one l j o es b = go (eqb k l && eqb i j)
+    where
+      go : (t : Bool) → or_last (cond t (o ∷ of_place k i es) (of_place k i es)) (b k i) ≡ or_last (of_place k i es) (cond t o (b k i))
+      go true = last-cons (of_place k i es) o (b k i)
+      go false = refl
 
-last-enters : (k i : ℕ) (cs : List Call) (b : Entries) → or_else (last k i (sets_accepted cs)) (b k i) ≡ enters cs b k i
-unfolding sets_accepted enters last
-last-enters k i [] b = refl
-last-enters k i (stream s room ∷ cs) b = last_taken k i room (units_taken s room) (sets_accepted cs) b ∙ last-enters k i cs (enter (stream s room) b)
-last-enters k i (alone u room ∷ cs) b = last-got k i (verdict u room) (sets_accepted cs) b ∙ last-enters k i cs (enter (alone u room) b)
+  last-noted : (v : Verdict) (es : List Naming) (b : Entries) → or_last (of_place k i (naming v es)) (b k i) ≡ or_last (of_place k i es) (note v b k i)
+  last-noted (accept a q) es b = last-one (kind_in a) (id_in a) (some a) es b
+  last-noted pass es b = refl
+  last-noted (damage l j n) es b = last-one l j none es b
+  last-noted (refuse n) es b = refl
 
-or_else-none : (o : Option VvcAps) → or_else o none ≡ o
-or_else-none none = refl
-or_else-none (some a) = refl
+  last-units : (room : ℕ) (us : List (List ℕ)) (es : List Naming) (b : Entries)
+      → or_last (of_place k i (naming_units room us es)) (b k i) ≡ or_last (of_place k i es) (note_units room us b k i)
+  unfolding naming_units note_units
+  last-units room [] es b = refl
+  last-units room (u ∷ us) es b = last-noted (verdict u room) (naming_units room us es) b ∙ last-units room us es (note (verdict u room) b)
 
--- the book holds the set of the last unit accepted
-pub book-last : (cs : List Call) (k i : ℕ) → book cs k i ≡ last_accepted cs k i
-book-last cs k i = sym (last-enters k i cs no_entries) ∙ or_else-none (last k i (sets_accepted cs))
+  last_taken : (room : ℕ) (r : Outcome (List (List ℕ))) (es : List Naming) (b : Entries)
+      → or_last (of_place k i (naming_taken room r es)) (b k i) ≡ or_last (of_place k i es) (note_taken room r b k i)
+  last_taken room (value us n) es b = last-units room us es b
+  last_taken room (refused n) es b = refl
+
+  last-enters : (cs : List Call) (b : Entries) → or_last (of_place k i (namings cs)) (b k i) ≡ enters cs b k i
+  unfolding namings enters of_place
+  last-enters [] b = refl
+  last-enters (stream s room ∷ cs) b = last_taken room (units_taken s room) (namings cs) b ∙ last-enters cs (enter (stream s room) b)
+  last-enters (alone u room ∷ cs) b = last-noted (verdict u room) (namings cs) b ∙ last-enters cs (enter (alone u room) b)
+
+-- the book holds the set of the last unit that named a place, if it was accepted
+pub book-last : (cs : List Call) (k i : ℕ) → book cs k i ≡ last_named cs k i
+book-last cs k i = sym (last-enters k i cs no_entries) ∙ last-none (of_place k i (namings cs))
 
 -- ---- books that agree on the 20 names go on agreeing
 
@@ -117,6 +134,7 @@ Agree b c = (k i : ℕ) → Names k i → b k i ≡ c k i
 pub agree-note : (v : Verdict) (b c : Entries) → Agree b c → Agree (note v b) (note v c)
 agree-note (accept a q) b c h = λ k i n. ap (cond (eqb k (kind_in a) && eqb i (id_in a)) (some a)) (h k i n)
 agree-note pass b c h = h
+agree-note (damage l j m) b c h = λ k i n. ap (cond (eqb k l && eqb i j) none) (h k i n)
 agree-note (refuse m) b c h = h
 
 pub agree-units : (room : ℕ) (us : List (List ℕ)) (b c : Entries) → Agree b c → Agree (note_units room us b) (note_units room us c)

@@ -17,14 +17,15 @@ use Rattle.aps.specs.declared.aps.VvcAps.{VvcAps}
 use Rattle.aps.proofs.CodecLaws.{and_left, and_right}
 use Rattle.aps_table.specs.Split.{framed}
 use Rattle.aps_table.specs.Places.{names, Entries, kind_in, id_in, filled_among, filled}
-use Rattle.aps_table.specs.Taking.{Verdict, accept, pass, refuse, verdict, tally, no_units}
+use Rattle.aps_table.specs.Taking.{Verdict, accept, pass, damage, refuse, verdict, tally, no_units}
 use Rattle.aps_table.specs.Calls.{Call, stream, alone, counted, units_taken, answer_to}
 use Rattle.aps_table.specs.List.{is_extended, any_extended, joined, listed, list_due}
 use Rattle.aps_table.specs.Book.{no_entries, replace, note, note_units, note_taken, enter, enters, book}
 use Rattle.aps_table.specs.Inner.{most_listed}
 use Rattle.aps_table.specs.declared.table.Counts.{Counts}
 use Rattle.aps_table.proofs.SplitLaws.{AllFit, split-framed}
-use Rattle.aps_table.proofs.UnitLaws.{accepted-read, Written, unit-written}
+use Rattle.aps_table.proofs.UnitLaws.{Written, unit-written}
+use Rattle.aps_table.proofs.VerdictLaws.{accepted-read}
 use Rattle.aps_table.proofs.BookLaws.{In, in-names, Agree}
 
 -- ---- what a book holds came from units, and stands under its own kind and id
@@ -61,6 +62,11 @@ held-note u room b h (accept x q) j = λ k i a e. go k i a (eqb k (kind_in x) &&
         }
     go k i a false p e = h k i a e
 held-note u room b h pass j = h
+held-note u room b h (damage l m n) j = λ k i a e. go k i a (eqb k l && eqb i m) e
+  where
+    go : (k i : ℕ) (a : VvcAps) (t : Bool) → cond t none (b k i) ≡ some a → Came k i a
+    go k i a true e = absurd (none-some e)
+    go k i a false e = h k i a e
 held-note u room b h (refuse n) j = h
 
 held-units : (room : ℕ) (us : List (List ℕ)) (b : Entries) → Held b → Held (note_units room us b)

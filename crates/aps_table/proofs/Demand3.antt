@@ -5,21 +5,21 @@ use mathlib.Core.Bool.{Bool, true, false, cond, ◌&&◌}
 use mathlib.Core.List.{List, [], ◌∷◌, ◌++◌}
 use borrow.Author.Tests.{ltb-true, leb-true, le-ltb}
 use lib.Dec.{leb, ltb}
-use lib.ListN.{length, take, drop}
+use lib.ListN.{length, take, drop, replicate}
 use lib.Seq.{length-sets}
 use Rattle.bitstream.specs.Outcome.{Outcome, value, refused, ◌then◌}
 use Rattle.bitstream.specs.Escapes.{put_bytes}
-use Rattle.aps.specs.Kinds.{largest_id}
+use Rattle.aps.specs.Kinds.{largest_id, most_bytes}
 use Rattle.aps.specs.Unit.{rbsp_of}
 use Rattle.aps.proofs.UnitWrites.{not-copied}
 use Rattle.aps_table.specs.Places.{named, names, place_at, table_bytes, new_table, Entries, kind_in, id_in, held, missing, found_in, lookup_in}
-use Rattle.aps_table.specs.Taking.{Verdict, accept, pass, refuse, verdict, put, take_unit, take_units}
+use Rattle.aps_table.specs.Taking.{Verdict, accept, pass, damage, refuse, verdict, clear, put, take_unit, take_units}
 use Rattle.aps_table.specs.Calls.{Call, stream, alone, Answer, counted, counting, units_taken, after_units, table_after, answer_to}
 use Rattle.aps_table.specs.List.{any_extended, list_due, write_list}
-use Rattle.aps_table.specs.Book.{no_entries, note, note_units, note_taken, enter, enters, book, last_accepted}
+use Rattle.aps_table.specs.Book.{no_entries, note, note_units, note_taken, enter, enters, book, last_named}
 use Rattle.aps_table.specs.Demand3.{runs, says, after, Alike, read_back, Cut, Demand3}
-use Rattle.aps_table.proofs.StoreLaws.{stored, new-length, new_none}
-use Rattle.aps_table.proofs.UnitLaws.{accepted-read}
+use Rattle.aps_table.proofs.StoreLaws.{stored, emptied, new-length, new_none}
+use Rattle.aps_table.proofs.VerdictLaws.{accepted-read, damaged-names}
 use Rattle.aps_table.proofs.BookLaws.{in-names, all-names, book-last, Agree, agree-units, agree-enters, list-agree, filled-agree, none-extended, one-extended}
 use Rattle.aps_table.proofs.CutLaws.{held-book, ReadBack, read_back_lem}
 
@@ -28,11 +28,14 @@ use Rattle.aps_table.proofs.CutLaws.{held-book, ReadBack, read_back_lem}
 put-note : (u : List ℕ) (room : ℕ) (t : List ℕ) → length t ≡ table_bytes → (v : Verdict) → verdict u room ≡ v → Agree (held (put v (rbsp_of u) t)) (note v (held t))
 put-note u room t h (accept a q) e = stored (rbsp_of u) a q (accepted-read u room a q e) t h
 put-note u room t h pass e = λ k i n. refl
+put-note u room t h (damage k i n) e = emptied k i (damaged-names u room e) t h
 put-note u room t h (refuse m) e = λ k i n. refl
 
 put-length : (v : Verdict) (r t : List ℕ) → length (put v r t) ≡ length t
+unfolding clear
 put-length (accept a q) r t = length-sets t (place_at (kind_in a) (id_in a)) (take ((q + 7) / 8) r)
 put-length pass r t = refl
+put-length (damage k i n) r t = length-sets t (place_at k i) (replicate (most_bytes k) 0)
 put-length (refuse n) r t = refl
 
 unit-length : (room : ℕ) (u t : List ℕ) → length (take_unit room u t) ≡ length t
@@ -149,7 +152,7 @@ module _ (cs : List Call) (l : List ℕ) (R : ReadBack (book cs) l) where
     accepted = λ n h.
         R.accepted n h
         ∙ ap (λ (m : ℕ). counted (record { accepted = m; refused = 0; passed = 0 })) (sym (filled-agree names (held (after cs)) (book cs) all-names (after-book cs)));
-    looks = λ n h k i. lookup-agree (held (read_back l n)) (last_accepted cs) (λ k i m. back-agree n h k i m ∙ book-last cs k i) k i;
+    looks = λ n h k i. lookup-agree (held (read_back l n)) (last_named cs) (λ k i m. back-agree n h k i m ∙ book-last cs k i) k i;
     alike = λ n h. agree-alike (after cs) (read_back l n) (both-agree n h);
     further = λ n h ds. (
       says_same ds (after cs) (read_back l n),
@@ -166,7 +169,7 @@ pub demand3 : (cs : List Call) → Demand3 cs
 unfolding write_list
 demand3 cs = record {
   in-force = book-last cs;
-  looks = λ k i. lookup-agree (held (after cs)) (last_accepted cs) (λ k i n. after-book cs k i n ∙ book-last cs k i) k i;
+  looks = λ k i. lookup-agree (held (after cs)) (last_named cs) (λ k i n. after-book cs k i n ∙ book-last cs k i) k i;
   extended-3 = λ k i a n e x out.
       ap (λ (o : Outcome (List ℕ)). o then λ l m. put_bytes out l)
       (list-after cs ∙ refused-3 (book cs) (one-extended names (book cs) k i a (in-names k i n) (book-last cs k i ∙ e) x));

@@ -14,3 +14,4 @@ pub mod StoreLaws
 pub mod Streaming
 pub mod TakeSteps
 pub mod UnitLaws
+pub mod VerdictLaws

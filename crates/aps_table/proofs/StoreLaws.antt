@@ -1,4 +1,4 @@
--- What a place holds after an accepted unit: the set of the unit in its own place, and every other place as it was.
+-- What a place holds after a unit that was accepted, the set of the unit, or damaged, none; and every other place what it held.
 use mathlib.Core.Path.{◌≡◌, refl, sym, ap, ◌∙◌}
 use mathlib.Core.Bool.{Bool, true, false, cond, ◌&&◌, false≢true}
 use mathlib.Core.List.{List, [], ◌∷◌, ◌++◌, append_assoc}
@@ -17,6 +17,7 @@ use Rattle.aps.specs.declared.aps.VvcAps.{VvcAps}
 use Rattle.aps.proofs.RbspLaws.{rbsp-id, rbsp-end, read-most}
 use Rattle.aps.proofs.LocalLaws.{zeros-none, rbsp-copy}
 use Rattle.aps_table.specs.Places.{Names, place_at, table_bytes, place_bytes, new_table, kind_in, id_in, under, held}
+use Rattle.aps_table.specs.Taking.{clear}
 use Rattle.aps_table.specs.Book.{replace}
 use Rattle.aps_table.proofs.PlaceSteps.{names-of, place-within}
 
@@ -174,3 +175,45 @@ new_none k i = go (read_rbsp (place_bytes new_table k i)) refl
     go : (o : Outcome VvcAps) → read_rbsp (place_bytes new_table k i) ≡ o → under k i o ≡ none
     go (value a q) e = absurd (zeros-none (place_bytes new_table k i) a q e (new-zero k i))
     go (refused n) e = refl
+
+-- ---- an emptied place
+
+module _ (k i : ℕ) (m : Names k i) (t : List ℕ) (h : length t ≡ table_bytes) where
+  zeros : List ℕ
+  zeros = replicate (most_bytes k) 0
+
+  size : length zeros ≡ most_bytes k
+  unfolding zeros
+  size = length-replicate {A = ℕ} (most_bytes k) 0
+
+  -- its bytes are zeros
+  cleared-zero : (n : ℕ) → get_or (place_bytes (clear k i t) k i) n 0 ≡ 0
+  unfolding clear place_bytes zeros
+  cleared-zero n = go (leb (suc n) (most_bytes k)) refl
+    where
+      go : (b : Bool) → leb (suc n) (most_bytes k) ≡ b → get_or (take (most_bytes k) (drop (place_at k i) (sets t (place_at k i) (replicate (most_bytes k) 0)))) n 0 ≡ 0
+      go true e = place-own t (replicate (most_bytes k) 0) k i m h (omega (arith, size)) n (omega (arith, size, leb-true (suc n) (most_bytes k) e)) ∙ zeros-at (most_bytes k) n
+      go false e =
+          let x = drop (place_at k i) (sets t (place_at k i) (replicate (most_bytes k) 0)) in
+          get_or-eq_default (take (most_bytes k) x) 0 (omega (arith, leb-false (suc n) (most_bytes k) e, length-take (most_bytes k) x))
+
+  cleared-none : held (clear k i t) k i ≡ none
+  unfolding held
+  cleared-none = go (read_rbsp (place_bytes (clear k i t) k i)) refl
+    where
+      go : (o : Outcome VvcAps) → read_rbsp (place_bytes (clear k i t) k i) ≡ o → under k i o ≡ none
+      go (value a q) e = absurd (zeros-none (place_bytes (clear k i t) k i) a q e cleared-zero)
+      go (refused n) e = refl
+
+  cleared_other : (l j : ℕ) → Names l j → ((k ≡ l) × (i ≡ j) → ⊥) → held (clear k i t) l j ≡ held t l j
+  unfolding held clear zeros
+  cleared_other l j n d = ap (λ (s : List ℕ). under l j (read_rbsp s)) (place_other t zeros k i l j m n d (omega (arith, size)))
+
+  -- it is empty, and every other place as it was
+  pub emptied : (l j : ℕ) → Names l j → held (clear k i t) l j ≡ replace k i none (held t) l j
+  emptied l j n = go (eqb l k) (eqb j i) refl refl
+    where
+      go : (b c : Bool) → eqb l k ≡ b → eqb j i ≡ c → held (clear k i t) l j ≡ cond (b && c) none (held t l j)
+      go true true x y = rw (eqb-true l k x, eqb-true j i y) cleared-none
+      go true false x y = cleared_other l j n (λ s. false≢true (sym y ∙ eq-eqb j i (sym s.1)))
+      go false c x y = cleared_other l j n (λ s. false≢true (sym x ∙ eq-eqb l k (sym s.0)))

@@ -13,7 +13,7 @@ use Rattle.bitstream.specs.declared.Refusal.{Refusal}
 use Rattle.aps.specs.Unit.{work_after}
 use Rattle.aps_table.specs.Split.{Units, split, prepend, ended, gap}
 use Rattle.aps_table.specs.Inner.{UnitAt, Follows, between, splits, units_of}
-use Rattle.aps_table.specs.Taking.{Verdict, accept, pass, refuse, verdict, take_unit, take_units, work_units, count, tally, no_units}
+use Rattle.aps_table.specs.Taking.{Verdict, accept, pass, damage, refuse, verdict, take_unit, take_units, work_units, count, tally, no_units}
 use Rattle.aps_table.specs.Calls.{Answer, counted, refusal, single, fitting, units_taken, after_units, counting, work_after_stream}
 use Rattle.aps_table.specs.declared.split.Unit.{Unit as Next}
 use Rattle.aps_table.specs.declared.table.Counts.{Counts}
@@ -99,6 +99,7 @@ next-left v (some us) h = (rw append-nil, refl)
 count-one : (v : Verdict) (c : Counts) → (count v c).accepted + (count v c).refused + (count v c).passed ≤ c.accepted + c.refused + c.passed + 1
 count-one (accept a q) c = omega arith
 count-one pass c = omega arith
+count-one (damage k i n) c = omega arith
 count-one (refuse n) c = omega arith
 
 module _ {s w₀ t₀ w t : List ℕ} {c : Counts} {i : ℕ} (S : Streaming s w₀ t₀ w t c i) where

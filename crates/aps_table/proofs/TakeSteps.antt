@@ -3,7 +3,7 @@ use borrow.Author.Tests.{leb-true, le-leb, lt-leb, le-ltb, ltb-true, ltb-false, 
 use mathlib.Core.Path.{◌≡◌, refl, sym, ap, ◌∙◌}
 use mathlib.Core.Bool.{Bool, true, false, cond, not, ◌&&◌}
 use mathlib.Core.List.{List, ◌++◌}
-use Prim.Native.Nat.{ℕ, ◌+◌, ◌/◌, ◌≤◌}
+use Prim.Native.Nat.{ℕ, ◌+◌, ◌/◌, ◌%◌, ◌≤◌}
 use native.Mathlib.Omega.{arith}
 use lib.Dec.{leb, ltb}
 use lib.ListN.{length, get_or, take, drop, length-append}
@@ -21,10 +21,12 @@ use Rattle.aps.proofs.CodecLaws.{then-value, and_left, and_right}
 use Rattle.aps.proofs.RbspLaws.{rbsp-end, read-most}
 use Rattle.aps.proofs.UnitSteps.{unit-refused}
 use Rattle.aps_table.specs.Places.{place_at, kind_in, id_in}
-use Rattle.aps_table.specs.Taking.{accept, is_passed, verdict, take_unit}
+use Rattle.aps_table.specs.Inner.{names_damaged}
+use Rattle.aps_table.specs.Taking.{is_passed, verdict, clear, take_unit}
 use Rattle.aps_table.specs.Calls.{accepted, passed, refusal, single}
 use Rattle.aps_table.proofs.PlaceSteps.{place-within}
 use Rattle.aps_table.proofs.StoreLaws.{read_names, read_fits}
+use Rattle.aps_table.proofs.VerdictLaws.{accepted-unit, refused-verdict}
 
 -- ---- passed over
 
@@ -58,16 +60,16 @@ module _ (u w t : List ℕ) (p : is_passed u ≡ true) where
 
 -- ---- refused or accepted
 
-module _ (u w t : List ℕ) (p : is_passed u ≡ false) where
+module _ (u w t : List ℕ) (p : is_passed u ≡ false) (n : ℕ) (e : parse_aps u (length w) ≡ refused n) where
   -- a refused unit leaves the table
-  pub refuses : (n : ℕ) → parse_aps u (length w) ≡ refused n → (refusal n ≡ single (verdict u (length w))) × (t ≡ take_unit (length w) u t)
-  unfolding verdict take_unit
-  refuses n e = (rw (p, e), rw (p, e))
+  pub refuses : names_damaged u n ≡ false → (refusal n ≡ single (verdict u (length w))) × (t ≡ take_unit (length w) u t)
+  unfolding take_unit
+  refuses d = let v = refused-verdict u (length w) n p e in (rw (v, d), rw (v, d))
 
-  -- a unit whose set is read is accepted
-  accepts : (a : VvcAps) (q : ℕ) → parse_aps u (length w) ≡ value a q → verdict u (length w) ≡ accept a q
-  unfolding verdict
-  accepts a q e = rw (p, e)
+  -- but a damaged one empties the place that it names
+  pub empties : names_damaged u n ≡ true → (refusal n ≡ single (verdict u (length w))) × (clear (get_or u 2 0 / 32) (get_or u 2 0 % 32) t ≡ take_unit (length w) u t)
+  unfolding take_unit
+  empties d = let v = refused-verdict u (length w) n p e in (rw (v, d), rw (v, d))
 
 module _ (u w : List ℕ) (a : VvcAps) (q : ℕ) (e : parse_aps u (length w) ≡ value a q) where
   -- the set is its RBSP's, which starts the work buffer
@@ -111,5 +113,5 @@ module _ (u w : List ℕ) (a : VvcAps) (q : ℕ) (e : parse_aps u (length w) ≡
           → (accepted ≡ single (verdict u (length w))) × (sets t (place_at (number_of h.kind) h.aps_adaptation_parameter_set_id) (take ((q + 7) / 8) v) ≡ take_unit (length w) u t)
       unfolding take_unit kind_in id_in
       stores t p =
-          let y = accepts u w t p a q e in
+          let y = accepted-unit u (length w) p a q e in
           (sym (ap single y), rw (y, g, bytes_read))

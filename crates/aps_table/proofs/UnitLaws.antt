@@ -1,38 +1,28 @@
 -- The unit of a set that came from a unit: it is written, has no start code in it, and comes to the same set again.
 use mathlib.Core.Path.{◌≡◌, refl, sym, ap, ◌∙◌}
-use mathlib.Core.Bool.{Bool, true, false, cond, ◌&&◌}
+use mathlib.Core.Bool.{Bool, true, false, ◌&&◌}
 use mathlib.Core.List.{List, [], ◌∷◌, append-nil}
 use Prim.Native.Nat.{ℕ, zero, suc, ◌+◌, ◌-◌, ◌*◌, ◌≤◌}
 use native.Mathlib.Omega.{arith}
 use lib.Dec.{leb}
 use lib.ListN.{length}
-use Rattle.bitstream.specs.Outcome.{Outcome, value, refused, ◌then◌}
+use Rattle.bitstream.specs.Outcome.{value}
 use Rattle.bitstream.specs.Escapes.{escape, zeros_at_end, Clean}
 use Rattle.bitstream.proofs.EscapeLaws.{none-at-end, escape-clean, escape-trailing}
 use Rattle.aps.specs.ApsSyntax.{aps, inferred}
 use Rattle.aps.specs.Rbsp.{read_rbsp, rbsp_bytes}
-use Rattle.aps.specs.Unit.{rbsp_of, admitted, parse_aps}
+use Rattle.aps.specs.Unit.{parse_aps}
 use Rattle.aps.specs.declared.aps.VvcAps.{VvcAps}
 use Rattle.aps.proofs.RbspLaws.{rbsp-sound, write_read, rbsp-some, rbsp-last}
 use Rattle.aps.specs.Writing.{unit_of}
 use Rattle.aps.proofs.RoundTrips.{unit-parsed}
 use Rattle.aps_table.specs.Places.{kind_in, extended}
-use Rattle.aps_table.specs.Taking.{accept, pass, verdict_of, is_passed, verdict}
+use Rattle.aps_table.specs.Taking.{accept, is_passed, verdict}
 use Rattle.aps_table.specs.List.{entry_due}
 use Rattle.aps_table.specs.Inner.{most_listed}
 use Rattle.aps_table.proofs.SplitLaws.{Fit}
+use Rattle.aps_table.proofs.VerdictLaws.{accepted-unit}
 use Rattle.aps_table.proofs.ListLaws.{due-plain, entry-most}
-
--- a unit is accepted only where its RBSP is read as a set
-pub accepted-read : (u : List ℕ) (room : ℕ) (a : VvcAps) (q : ℕ) → verdict u room ≡ accept a q → read_rbsp (rbsp_of u) ≡ value a q
-unfolding verdict parse_aps
-accepted-read u room a q = go (is_passed u) (admitted u room) (read_rbsp (rbsp_of u))
-  where
-    go : (b : Bool) (o : Outcome (Unit {0})) (r : Outcome VvcAps) → cond b pass (verdict_of (o then λ e p. r)) ≡ accept a q → r ≡ value a q
-    go true o r e = cc
-    go false (refused n) r e = cc
-    go false (value x p) (value c m) e = cc
-    go false (value x p) (refused n) e = cc
 
 -- a unit of scaling lists may be the longest
 most-of-all : (k : ℕ) → most_listed k ≤ most_listed 2
@@ -89,14 +79,13 @@ module _ (r : List ℕ) (a : VvcAps) (q : ℕ) (e : read_rbsp r ≡ value a q) (
   unit-small = omega (arith, entry-most a _ _ entry-due)
 
   unit-back : (room : ℕ) → length (unit_of 17 (rbsp_bytes a)) ≤ room → verdict (unit_of 17 (rbsp_bytes a)) room ≡ accept a (8 * length (rbsp_bytes a))
-  unfolding verdict
   unit-back room h =
       let l = rbsp_bytes a in
       let p : parse_aps (unit_of 17 l) room ≡ read_rbsp l
       = unit-parsed 17 l room refl (omega (arith, unit-small, most-of-all (kind_in a))) (omega arith) in
       let b : read_rbsp l ≡ value a (8 * length l)
       = ap read_rbsp (sym (append-nil l)) ∙ write_read a sound.0 plain [] ∙ ap (λ (c : VvcAps). value c (8 * length l)) sound.1 in
-      ap (λ (t : Bool). cond t pass (verdict_of (parse_aps (unit_of 17 l) room))) (unit-passed l) ∙ ap verdict_of (p ∙ b)
+      accepted-unit (unit_of 17 l) room (unit-passed l) a (8 * length l) (p ∙ b)
 
   pub unit-written : Written a
   unit-written = record {

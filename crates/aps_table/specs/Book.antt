@@ -1,10 +1,10 @@
--- The book, what is in force: an entry for each kind and id, replaced at each unit accepted for it. It is fed by the calls alone.
+-- The book, what is in force: an entry for each kind and id, replaced at each unit accepted for it and removed at each damaged one. It is fed by the calls alone.
 use Rattle.std.specs.Prelude.{ℕ, cond, ◌&&◌, List, [], ◌∷◌, eqb}
 use Rattle.std.proofs.Math.Option.{Option, none, some}
 use Rattle.bitstream.specs.Outcome.{Outcome, value, refused}
 use Rattle.aps.specs.declared.aps.VvcAps.{VvcAps}
 use Rattle.aps_table.specs.Places.{Entries, kind_in, id_in}
-use Rattle.aps_table.specs.Taking.{Verdict, accept, pass, refuse, verdict}
+use Rattle.aps_table.specs.Taking.{Verdict, accept, pass, damage, refuse, verdict}
 use Rattle.aps_table.specs.Calls.{Call, stream, alone, units_taken}
 
 abbrev pub no_entries : Entries
@@ -13,10 +13,11 @@ no_entries k i = none
 abbrev pub replace : ℕ → ℕ → Option VvcAps → Entries → Entries
 replace k i o b l j = cond (eqb l k && eqb j i) o (b l j)
 
--- a unit: the set read replaces the entry of its kind and id; one passed over or refused changes nothing
+-- a unit: the set read replaces the entry of its kind and id, a damaged one removes the entry that it names; one passed over or refused otherwise changes nothing
 abbrev pub note : Verdict → Entries → Entries
 note (accept a q) b = replace (kind_in a) (id_in a) (some a) b
 note pass b = b
+note (damage k i n) b = replace k i none b
 note (refuse n) b = b
 
 unfoldable pub note_units : ℕ → List (List ℕ) → Entries → Entries
@@ -40,38 +41,46 @@ enters (c ∷ cs) b = enters cs (enter c b)
 abbrev pub book : List Call → Entries
 book cs = enters cs no_entries
 
--- ---- the same by the last unit accepted
+-- ---- the same by the last unit that named a place
 
--- the sets of the units accepted, in order
-abbrev pub got : Verdict → List VvcAps → List VvcAps
-got (accept a q) l = a ∷ l
-got pass l = l
-got (refuse n) l = l
+-- a unit that names a place: its kind and id, and the set accepted for it, or none where it was damaged
+abbrev pub Naming : Type 0
+Naming = (ℕ × ℕ) × Option VvcAps
 
-unfoldable pub got_units : ℕ → List (List ℕ) → List VvcAps → List VvcAps
-got_units room [] l = l
-got_units room (u ∷ us) l = got (verdict u room) (got_units room us l)
+abbrev pub naming : Verdict → List Naming → List Naming
+naming (accept a q) l = ((kind_in a, id_in a), some a) ∷ l
+naming pass l = l
+naming (damage k i n) l = ((k, i), none) ∷ l
+naming (refuse n) l = l
 
-abbrev pub got_taken : ℕ → Outcome (List (List ℕ)) → List VvcAps → List VvcAps
-got_taken room (value us n) l = got_units room us l
-got_taken room (refused n) l = l
+-- those of the units, in order
+unfoldable pub naming_units : ℕ → List (List ℕ) → List Naming → List Naming
+naming_units room [] l = l
+naming_units room (u ∷ us) l = naming (verdict u room) (naming_units room us l)
 
-abbrev pub got_call : Call → List VvcAps → List VvcAps
-got_call (stream s room) l = got_taken room (units_taken s room) l
-got_call (alone u room) l = got (verdict u room) l
+abbrev pub naming_taken : ℕ → Outcome (List (List ℕ)) → List Naming → List Naming
+naming_taken room (value us n) l = naming_units room us l
+naming_taken room (refused n) l = l
 
-unfoldable pub sets_accepted : List Call → List VvcAps
-sets_accepted [] = []
-sets_accepted (c ∷ cs) = got_call c (sets_accepted cs)
+abbrev pub naming_call : Call → List Naming → List Naming
+naming_call (stream s room) l = naming_taken room (units_taken s room) l
+naming_call (alone u room) l = naming (verdict u room) l
 
--- the last set of a kind and id, or none
-abbrev pub or_else : Option VvcAps → Option VvcAps → Option VvcAps
-or_else none o = o
-or_else (some a) o = some a
+unfoldable pub namings : List Call → List Naming
+namings [] = []
+namings (c ∷ cs) = naming_call c (namings cs)
 
-unfoldable pub last : ℕ → ℕ → List VvcAps → Option VvcAps
-last k i [] = none
-last k i (a ∷ l) = or_else (last k i l) (cond (eqb k (kind_in a) && eqb i (id_in a)) (some a) none)
+-- what those that name kind k and id i gave
+unfoldable pub of_place : ℕ → ℕ → List Naming → List (Option VvcAps)
+of_place k i [] = []
+of_place k i (e ∷ l) = cond (eqb k e.0.0 && eqb i e.0.1) (e.1 ∷ of_place k i l) (of_place k i l)
 
-abbrev pub last_accepted : List Call → Entries
-last_accepted cs k i = last k i (sets_accepted cs)
+-- the last of them, or none
+unfoldable pub last : List (Option VvcAps) → Option VvcAps
+last [] = none
+last (o ∷ []) = o
+last (o ∷ p ∷ l) = last (p ∷ l)
+
+-- the set of the last unit that named a place, if that unit was accepted
+abbrev pub last_named : List Call → Entries
+last_named cs k i = last (of_place k i (namings cs))

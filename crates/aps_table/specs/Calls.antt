@@ -3,7 +3,7 @@ use Rattle.std.specs.Prelude.{ℕ, cond, List, ltb, length}
 use Rattle.std.proofs.Math.Option.{none, some}
 use Rattle.bitstream.specs.Outcome.{Outcome, value, refused}
 use Rattle.aps_table.specs.Split.{Units, split}
-use Rattle.aps_table.specs.Taking.{Verdict, accept, pass, refuse, verdict, take_unit, take_units, work_units, tally, no_units}
+use Rattle.aps_table.specs.Taking.{Verdict, accept, pass, damage, refuse, verdict, take_unit, take_units, work_units, tally, no_units}
 use Rattle.aps_table.specs.declared.table.Counts.{Counts}
 
 -- a stream or a unit alone: its bytes, and the length of its work buffer
@@ -42,6 +42,7 @@ table_after (alone u room) t = take_unit room u t
 abbrev pub single : Verdict → Answer
 single (accept a q) = accepted
 single pass = passed
+single (damage k i n) = refusal n
 single (refuse n) = refusal n
 
 abbrev pub counting : ℕ → Outcome (List (List ℕ)) → Answer

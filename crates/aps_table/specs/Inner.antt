@@ -1,7 +1,7 @@
 -- For the proofs' sake: what the inner functions promise each other on the way. No public contract says anything of this file.
 use Rattle.bitstream.specs.declared.Refusal.{Refusal}
 use Rattle.bitstream.specs.declared.Refusal.TheVariants.{InvalidData}
-use Rattle.std.specs.Prelude.{ℕ, ◌+◌, ◌-◌, ◌*◌, ◌/◌, ◌≤◌, ◌<◌, ◌≡◌, Bool, true, false, List, [], length, get_or, take, drop, Option, None, Some, Result, Ok, Err}
+use Rattle.std.specs.Prelude.{ℕ, ◌+◌, ◌-◌, ◌*◌, ◌/◌, ◌%◌, ◌≤◌, ◌<◌, ◌≡◌, Bool, true, false, ◌&&◌, leb, List, [], length, get_or, take, drop, Option, None, Some, Result, Ok, Err}
 use Rattle.std.proofs.Math.Option.{none, some}
 use Rattle.bitstream.specs.Outcome.{Outcome, value, refused, number}
 use Rattle.aps.specs.Kinds.{largest_id, most_bytes}
@@ -10,7 +10,7 @@ use Rattle.aps.specs.Reading.{head_of}
 use Rattle.aps.specs.declared.aps.ApsHead.{ApsHead}
 use Rattle.aps.specs.declared.aps.Reading.{Reading}
 use Rattle.aps.specs.declared.aps.VvcAps.{VvcAps}
-use Rattle.aps_table.specs.Places.{held, place_bytes}
+use Rattle.aps_table.specs.Places.{named, held, place_bytes}
 use Rattle.aps_table.specs.declared.list.CutList.{CutList}
 use Rattle.aps_table.specs.declared.split.Unit.{Unit as Next}
 use Rattle.aps_table.specs.Split.{Units, prepend, ended, gap, body}
@@ -110,3 +110,7 @@ most_listed k = 6 + most_bytes k * 3 / 2
 -- the room of a list: as many of these as each kind has ids
 abbrev pub list_bytes : ℕ
 list_bytes = (largest_id 0 + 1) * most_listed 0 + (largest_id 1 + 1) * most_listed 1 + (largest_id 2 + 1) * most_listed 2
+
+-- a unit of three bytes or more, refused with 1 or 2, whose third byte names a place
+unfoldable pub names_damaged : List ℕ → ℕ → Bool
+names_damaged u n = leb n 2 && (leb 3 (length u) && named (get_or u 2 0 / 32) (get_or u 2 0 % 32))

@@ -1,21 +1,37 @@
 -- What a unit comes to, and what units do to the table, the work buffer and the counts.
-use Rattle.std.specs.Prelude.{ℕ, ◌+◌, ◌/◌, Bool, cond, not, ◌&&◌, List, [], ◌∷◌, leb, length, get_or, take}
+use Rattle.std.specs.Prelude.{ℕ, ◌+◌, ◌/◌, ◌%◌, Bool, cond, not, ◌&&◌, List, [], ◌∷◌, leb, length, get_or, take, replicate}
 use Rattle.std.proofs.lemmas.List.Edits.{sets}
 use Rattle.bitstream.specs.Outcome.{Outcome, value, refused}
-use Rattle.aps.specs.Unit.{is_aps, rbsp_of, parse_aps, work_after}
+use Rattle.aps.specs.Kinds.{most_bytes}
+use Rattle.aps.specs.Rbsp.{read_rbsp}
+use Rattle.aps.specs.Unit.{is_aps, rbsp_of, admitted, work_after}
 use Rattle.aps.specs.declared.aps.VvcAps.{VvcAps}
-use Rattle.aps_table.specs.Places.{place_at, kind_in, id_in}
+use Rattle.aps_table.specs.Places.{named, place_at, kind_in, id_in}
 use Rattle.aps_table.specs.declared.table.Counts.{Counts}
 
--- accepted with the set and the bit where reading it ended, passed over, or refused with a number
+-- accepted with the set and the bit where reading it ended, passed over, refused with a number, or, damaged, refused with a number and the kind and id that it names
 pub data Verdict : Type 0 where
   accept : VvcAps → ℕ → Verdict
   pass : Verdict
+  damage : ℕ → ℕ → ℕ → Verdict
   refuse : ℕ → Verdict
 
-abbrev pub verdict_of : Outcome VvcAps → Verdict
-verdict_of (value a q) = accept a q
-verdict_of (refused n) = refuse n
+-- the kind and the id in an RBSP's first byte name a place
+unfoldable pub names_place : List ℕ → Bool
+names_place r = leb 1 (length r) && named (get_or r 0 0 / 32) (get_or r 0 0 % 32)
+
+-- an RBSP that is refused with 1 or 2 and names a place is damaged
+unfoldable pub refused_rbsp : List ℕ → ℕ → Verdict
+refused_rbsp r n = cond (names_place r && leb n 2) (damage (get_or r 0 0 / 32) (get_or r 0 0 % 32) n) (refuse n)
+
+abbrev pub rbsp_verdict : List ℕ → Outcome VvcAps → Verdict
+rbsp_verdict r (value a q) = accept a q
+rbsp_verdict r (refused n) = refused_rbsp r n
+
+-- a unit whose header is refused is not damaged
+abbrev pub unit_verdict : Outcome (Unit {0}) → List ℕ → Verdict
+unit_verdict (value e p) r = rbsp_verdict r (read_rbsp r)
+unit_verdict (refused n) r = refuse n
 
 -- passed over: not over 65,536 bytes, 2 or more, and a type other than 17 or 18
 unfoldable pub is_passed : List ℕ → Bool
@@ -23,12 +39,17 @@ is_passed u = leb (length u) 65536 && (leb 2 (length u) && not (is_aps (get_or u
 
 -- with a work buffer of `room` bytes: accepted exactly where `parse_aps` gives a set
 unfoldable pub verdict : List ℕ → ℕ → Verdict
-verdict u room = cond (is_passed u) pass (verdict_of (parse_aps u room))
+verdict u room = cond (is_passed u) pass (unit_verdict (admitted u room) (rbsp_of u))
 
--- an accepted set replaces its place: the bytes of its RBSP that were read go there
+-- an emptied place is zeros
+unfoldable pub clear : ℕ → ℕ → List ℕ → List ℕ
+clear k i t = sets t (place_at k i) (replicate (most_bytes k) 0)
+
+-- an accepted set replaces its place: the bytes of its RBSP that were read go there; a damaged one empties the place that it names
 abbrev pub put : Verdict → List ℕ → List ℕ → List ℕ
 put (accept a q) rbsp t = sets t (place_at (kind_in a) (id_in a)) (take ((q + 7) / 8) rbsp)
 put pass rbsp t = t
+put (damage k i n) rbsp t = clear k i t
 put (refuse n) rbsp t = t
 
 unfoldable pub take_unit : ℕ → List ℕ → List ℕ → List ℕ
@@ -47,6 +68,7 @@ work_units (u ∷ us) work = work_units us (work_after u work)
 abbrev pub count : Verdict → Counts → Counts
 count (accept a q) c = record { accepted = c.accepted + 1; refused = c.refused; passed = c.passed }
 count pass c = record { accepted = c.accepted; refused = c.refused; passed = c.passed + 1 }
+count (damage k i n) c = record { accepted = c.accepted; refused = c.refused + 1; passed = c.passed }
 count (refuse n) c = record { accepted = c.accepted; refused = c.refused + 1; passed = c.passed }
 
 unfoldable pub tally : ℕ → List (List ℕ) → Counts → Counts

@@ -21,7 +21,7 @@ pub const TABLE_BYTES: usize = ALF_PLACES * Alf::MAX_BYTES
     + LMCS_PLACES * Lmcs::MAX_BYTES
     + SCALING_PLACES * Scaling::MAX_BYTES;
 
-// In each place the bytes of the RBSP last accepted for it; all zero when new.
+// In each place the bytes of the RBSP last accepted for it; all zero when new or emptied.
 pub type Table = [u8; TABLE_BYTES];
 
 // A table with all places empty.
@@ -119,5 +119,15 @@ impl Place {
     {
         let at = self.at();
         table[at..at + rbsp.len()].copy_from_slice(rbsp);
+    }
+
+    ghost use Rattle.aps_table.specs.Taking.{clear};
+
+    // Emptied: zeros are no set.
+    pub(crate) fn clear(self, table: &mut Table)
+        ensures { table.new ≡ clear (number_of self.kind) self.id table.old }
+    {
+        let at = self.at();
+        table[at..at + self.size()].fill(0);
     }
 }

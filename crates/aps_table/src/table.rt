@@ -1,9 +1,10 @@
 // The table: a unit alone and a stream taken into it, and the lookup.
-ghost use Rattle.std.specs.Prelude.{◌≡◌, true, false, ◌+◌, ◌≤◌, ◌<◌, length};
+ghost use Rattle.std.specs.Prelude.{◌≡◌, true, false, ◌+◌, ◌/◌, ◌%◌, ◌≤◌, ◌<◌, length, get_or, IfSome, IfNone};
+ghost use Rattle.bitstream.specs.Outcome.{number};
 ghost use Rattle.aps.specs.Unit.{work_after};
 ghost use Rattle.aps.specs.ApsSyntax.{number_of};
 ghost use Rattle.aps_table.specs.Split.{split};
-ghost use Rattle.aps_table.specs.Inner.{splits, units_of, Owned};
+ghost use Rattle.aps_table.specs.Inner.{splits, units_of, names_damaged, Owned};
 ghost use Rattle.aps_table.specs.Places.{found_in, held, looked_up};
 ghost use Rattle.aps_table.specs.Taking.{Verdict, is_passed, take_units, work_units, tally, no_units, count as count_of};
 ghost use Rattle.aps_table.specs.Calls.{stream, alone, single, table_after, answer_to, work_after_stream};
@@ -65,6 +66,21 @@ fn is_passed(unit: &[u8]) -> bool
     }
 }
 
+// The place that a refused unit empties: where its RBSP was refused with 1 or 2, the one that the RBSP's first byte names. No escape stands before that byte.
+#[tactic(auto, unfolding(crate::specs::Inner::names_damaged, crate::specs::Places::named))]
+fn damaged_place(unit: &[u8], why: Refusal) -> Option<Place>
+    ensures some { IfSome result (λ place. (names_damaged unit.now (number why) ≡ true) × (number_of place.kind ≡ get_or unit.now 2 0 / 32) × (place.id ≡ get_or unit.now 2 0 % 32)) }
+    ensures none { IfNone result (names_damaged unit.now (number why) ≡ false) }
+{
+    if 2 < u32::from(why) {
+        return None;
+    }
+    let &[_, _, first, ..] = unit else {
+        return None;
+    };
+    Place::new(first / 32, first % 32)
+}
+
 // An APS unit, or one that is too long or too short for a header.
 fn take_aps(table: &mut Table, unit: &[u8], work: &mut [u8]) -> Result<Taken, Refusal>
     requires { is_passed unit.now ≡ false }
@@ -72,17 +88,26 @@ fn take_aps(table: &mut Table, unit: &[u8], work: &mut [u8]) -> Result<Taken, Re
     ensures table { table.new ≡ table_after (alone unit.now (length work.old)) table.old }
     ensures work { work.new ≡ work_after unit.now work.old }
 {
-    let reading = parse_unit_head(unit, work)?;
-    let head = reading.value;
-    let place = Place {
-        kind: head.kind,
-        id: head.aps_adaptation_parameter_set_id,
-    };
-    place.store(table, &work[..(reading.end + 7) / 8]);
-    Ok(Taken::Accepted)
+    match parse_unit_head(unit, work) {
+        Ok(reading) => {
+            let head = reading.value;
+            let place = Place {
+                kind: head.kind,
+                id: head.aps_adaptation_parameter_set_id,
+            };
+            place.store(table, &work[..(reading.end + 7) / 8]);
+            Ok(Taken::Accepted)
+        }
+        Err(why) => {
+            if let Some(place) = damaged_place(unit, why) {
+                place.clear(table);
+            }
+            Err(why)
+        }
+    }
 }
 
-// A unit alone: 4; 1; passed over; then as `parse_aps`.
+// A unit alone: 4; 1; passed over; then as `parse_aps`. One that is refused with 1 or 2 after its header empties the place that its RBSP names.
 pub fn take_unit(table: &mut Table, unit: &[u8], work: &mut [u8]) -> Result<Taken, Refusal>
     ensures answer { unit_answer result ≡ answer_to (alone unit.now (length work.old)) }
     ensures table { table.new ≡ table_after (alone unit.now (length work.old)) table.old }

@@ -192,7 +192,7 @@ fn units() {
     let (mut random, written) = (Random(0xFEDC_BA98_7654_3211), written());
     let flags = [alf_flags(), lmcs_flags(), scaling_flags()];
     let mut table = Table::new();
-    let mut taken = 0;
+    let (mut taken, mut emptied) = (0, 0);
     for _ in 0..4_000 {
         let unit = unit(&mut random, &written);
         let mut works = [[0xAA; 6144]; 4];
@@ -240,11 +240,28 @@ fn units() {
             Err(_) if !is_aps => assert_eq!(answer, Ok(Taken::PassedOver)),
             Err(why) => {
                 assert_eq!(answer, Err(why));
-                assert_eq!(sets(&table), sets(&before));
+                let mut due = sets(&before);
+                let damaged = matches!(why, Refusal::UnexpectedEnd | Refusal::InvalidData);
+                if let Some(place) = unit.get(2).and_then(|&first| place(first)).filter(|_| damaged) {
+                    emptied += usize::from(due[place].is_ok());
+                    due[place] = Err(Refusal::EmptyPlace);
+                }
+                assert_eq!(sets(&table), due);
             }
         }
     }
     assert!(taken > 500, "{taken}");
+    assert!(emptied > 50, "{emptied}");
+}
+
+/// The place, by kind and then id, that an RBSP's first byte names.
+fn place(first: u8) -> Option<usize> {
+    let (kind, id) = (Kind::from_number(first / 32)?, first % 32);
+    let before: u8 = Kind::ALL[..kind.number().into()]
+        .iter()
+        .map(|kind| kind.max_id() + 1)
+        .sum();
+    (id <= kind.max_id()).then_some((before + id).into())
 }
 
 /// Each place of a table.

@@ -56,6 +56,55 @@ fn the_last_set_is_held() {
 }
 
 #[test]
+fn a_damaged_unit_empties_its_place() {
+    let sets = made::all();
+    // Cut off or wrong, by each kind and id: its own place is empty, and every other as it was.
+    for set in &sets {
+        let (kind, id) = (set.kind(), set.aps_adaptation_parameter_set_id());
+        let first = kind.number() * 32 + id;
+        for damaged in [vec![0x00, 0x89, first], vec![0x00, 0x91, first, 0xFF]] {
+            let mut table = holding(&sets);
+            let refused = table.take_unit(&damaged, &mut [0; 2]);
+            assert!(matches!(refused, Err(Refusal::UnexpectedEnd | Refusal::InvalidData)));
+            assert_eq!(table.lookup(kind, id), Err(Refusal::EmptyPlace));
+            for other in sets.iter().filter(|other| *other != set) {
+                assert_eq!(
+                    table
+                        .lookup(other.kind(), other.aps_adaptation_parameter_set_id())
+                        .as_ref(),
+                    Ok(other)
+                );
+            }
+            let (mut unit, mut work) = ([0; 6144], [0; 6144]);
+            let len = write_unit(set, 17, &mut unit).unwrap();
+            assert_eq!(table.take_unit(&unit[..len], &mut work), Ok(Taken::Accepted));
+            assert_eq!(table.list(), holding(&sets).list());
+        }
+    }
+}
+
+#[test]
+fn what_names_no_place_empties_none() {
+    let mut table = holding(&made::all());
+    let before = table.list();
+    // No RBSP; ids and kinds that are too large; 5; another type; a stream that is refused.
+    for (unit, room, refusal) in [
+        ("00 89", 0, Refusal::UnexpectedEnd),
+        ("00 89 08", 1, Refusal::UnexpectedEnd),
+        ("00 89 24", 1, Refusal::UnexpectedEnd),
+        ("00 89 48", 1, Refusal::UnexpectedEnd),
+        ("00 89 60 00", 2, Refusal::Unsupported),
+        ("00 89 00", 0, Refusal::OutputTooShort),
+    ] {
+        assert_eq!(table.take_unit(&hex(unit), &mut vec![0; room]), Err(refusal));
+    }
+    assert_eq!(table.take_unit(&hex("00 09 00"), &mut []), Ok(Taken::PassedOver));
+    let refused = table.take_stream(&hex("07 00 00 01 00 89 00"), &mut [0; 8]);
+    assert_eq!(refused, Err(Refusal::InvalidData));
+    assert_eq!(table.list(), before);
+}
+
+#[test]
 fn refused_and_passed_over() {
     let mut table = holding(&[Aps::Scaling(made::scaling(7))]);
     let before = table.list();
