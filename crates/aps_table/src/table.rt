@@ -164,14 +164,14 @@ fn set_held(table: &Table, place: Place) -> Result<VvcAps, Refusal>
     Err(Refusal::EmptyPlace)
 }
 
-// The set held for a kind and an id: 2; 6. C passes a kind's number, and one that is no kind's gets 2.
+// The set held for a kind and an id: 2; 6. The kind is a number, and one that is no kind's gets 2.
 pub fn lookup(table: &Table, kind: u8, id: u8) -> Result<VvcAps, Refusal>
     ensures { lookup_answer result ≡ looked_up table.now kind id }
 {
     set_held(table, Place::new(kind, id).ok_or(Refusal::InvalidData)?)
 }
 
-// The head of a place's own set and the bit where the set ends, if it holds one. One body for it and the set would need a trait with an impl for each, and be longer.
+// The head of a place's own set and the bit where the set ends, if it holds one. One body for it, the set and a payload would need a trait with an impl for each, and be longer.
 pub(crate) fn own_head(table: &Table, place: Place) -> Option<Reading<ApsHead>>
     ensures { Owned table.now (number_of place.kind) place.id result }
 {
@@ -191,7 +191,7 @@ fn head_held(table: &Table, place: Place) -> Result<ApsHead, Refusal>
     Ok(own_head(table, place).ok_or(Refusal::EmptyPlace)?.value)
 }
 
-// Of the set held for a kind and an id its head, and no array: 2; 6. C passes a kind's number here too.
+// Of the set held for a kind and an id its head, and no array: 2; 6. C passes a kind's number.
 pub fn lookup_head(table: &Table, kind: u8, id: u8) -> Result<ApsHead, Refusal>
     ensures { head_answer result ≡ head_looked (looked_up table.now kind id) }
 {

@@ -59,7 +59,7 @@ rewrite s out = parse_aps_rbsp s then λ a q. write_aps a out
 
 -- `aps_alf_rewrite` and the like: the same of a set of that kind; 2 for one of another kind
 unfoldable pub rewrite_of : ApsKind → List ℕ → List ℕ → Outcome (List ℕ)
-rewrite_of kind s out = parse_aps_rbsp s then λ a q. cond (eqb (number_of a.kind) (number_of kind)) (write_aps a out) (refused 2)
+rewrite_of kind s out = of_kind kind (λ a. a) (parse_aps_rbsp s) then λ a q. write_aps a out
 
 -- 0 for a stream that was taken and a unit that was accepted, 256 for a unit passed over, or the refusal's number
 unfoldable pub answer_code : Answer → ℕ

@@ -38,7 +38,7 @@ fn payload_end<P: Payload>(bytes: &[u8], end: &mut [u64; 1]) -> u32
 }
 
 // A set read and written again by one kind, and its length; 2 for a set of another kind.
-#[tactic(auto, unfolding(crate::specs::Codes::code, crate::specs::Codes::place_left, crate::specs::Codes::rewrite_of))]
+#[tactic(auto, unfolding(crate::specs::Codes::code, crate::specs::Codes::place_left, crate::specs::Codes::rewrite_of, crate::specs::Codes::of_kind))]
 fn payload_rewrite<P: Payload>(bytes: &[u8], out: &mut [u8], len: &mut [u64; 1]) -> u32
     ensures code { result ≡ code (rewrite_of P.KIND bytes.now out.old) }
     ensures out { out.new ≡ left out.old (rewrite_of P.KIND bytes.now out.old) }
