@@ -1,6 +1,6 @@
 // The calls of one kind by C's struct of it: 0 with the answer in what is lent, or a refusal's number with all as it was.
-ghost use Rattle.std.specs.Prelude.{◌≡◌, false, List, ℕ, length, IfOk, IfErr};
-ghost use Rattle.bitstream.specs.Outcome.{Outcome, left, map_outcome, number, outcome_written, refused};
+ghost use Rattle.std.specs.Prelude.{◌≡◌, List, ℕ, length};
+ghost use Rattle.bitstream.specs.Outcome.{Outcome, left, map_outcome, outcome_written};
 ghost use Rattle.aps.specs.ApsSyntax.{number_of};
 ghost use Rattle.aps.specs.Rbsp.{parse_aps_rbsp};
 ghost use Rattle.aps.specs.Unit.{parse_aps, work_after};
@@ -8,7 +8,6 @@ ghost use Rattle.aps.specs.Reading.{outcome_reading, part_by};
 ghost use Rattle.aps.specs.Writing.{write_aps, write_aps_nal};
 ghost use Rattle.aps_table.specs.Places.{looked_up};
 ghost use Rattle.kendwyra.specs.Codes.{code, value_left, place_left, of_kind, looked_code, looked_left, taken, taken_nal};
-ghost use Rattle.kendwyra.specs.Flags.{byte_flag};
 ghost use Rattle.aps.specs.declared.aps.VvcAps.{VvcAps};
 
 use crate::set::Struct;
@@ -101,34 +100,27 @@ pub(crate) fn sized(size: Result<usize, Refusal>, len: &mut [u64; 1]) -> u32
     }
 }
 
-// The payload of a struct that is written. 3: extension flag 1; 2: a flag that is neither 0 nor 1.
-#[tactic(auto, unfolding(crate::specs::Codes::taken))]
-fn taken<P: Payload, S: Struct<P>>(set: &S) -> Result<P, Refusal>
-    ensures ok { IfOk result (λ d. ((o : Outcome (List ℕ)) → taken (S.extension set.now) (S.flags set.now) o ≡ o)
-        × (P.alone (S.id set.now) (byte_flag (S.chroma set.now)) false d ≡ S.meaning set.now)) }
-    ensures err { IfErr result (λ why. (o : Outcome (List ℕ)) → taken (S.extension set.now) (S.flags set.now) o ≡ refused (number why)) }
-{
-    if set.extension() == 1 {
-        return Err(Refusal::Unsupported);
-    }
-    set.payload().ok_or(Refusal::InvalidData)
-}
-
-// A set as an RBSP at the start of out, and its length.
-#[tactic(auto, unfolding(crate::specs::Codes::code, crate::specs::Codes::place_left))]
+// A set as an RBSP at the start of out, and its length. One function for what it and `write_nal` refuse would copy the record once more.
+#[tactic(auto, unfolding(crate::specs::Codes::code, crate::specs::Codes::place_left, crate::specs::Codes::taken))]
 pub(crate) fn write<P: Payload, S: Struct<P>>(set: &S, out: &mut [u8], len: &mut [u64; 1]) -> u32
     ensures code { result ≡ code (taken (S.extension set.now) (S.flags set.now) (write_aps (S.meaning set.now) out.old)) }
     ensures out { out.new ≡ left out.old (taken (S.extension set.now) (S.flags set.now) (write_aps (S.meaning set.now) out.old)) }
     ensures len { len.new ≡ place_left (taken (S.extension set.now) (S.flags set.now) (write_aps (S.meaning set.now) out.old)) len.old }
 {
-    match taken::<P, S>(set) {
-        Ok(d) => sized(d.write_rbsp(set.id(), set.chroma() == 1, false, out), len),
-        Err(why) => why.into(),
+    if set.extension() == 1 {
+        return Refusal::Unsupported.into();
+    }
+    match set.payload() {
+        Some(d) => sized(
+            d.write_rbsp(set.id(), set.chroma() == 1, set.extension() == 1, out),
+            len,
+        ),
+        None => Refusal::InvalidData.into(),
     }
 }
 
 // A set as a unit at the start of out, and its length.
-#[tactic(auto, unfolding(crate::specs::Codes::code, crate::specs::Codes::place_left, crate::specs::Codes::taken_nal))]
+#[tactic(auto, unfolding(crate::specs::Codes::code, crate::specs::Codes::place_left, crate::specs::Codes::taken, crate::specs::Codes::taken_nal))]
 pub(crate) fn write_nal<P: Payload, S: Struct<P>>(
     set: &S,
     unit_type: u8,
@@ -142,11 +134,20 @@ pub(crate) fn write_nal<P: Payload, S: Struct<P>>(
     if !is_aps(unit_type) {
         return Refusal::InvalidData.into();
     }
-    match taken::<P, S>(set) {
-        Ok(d) => sized(
-            d.write_nal(set.id(), set.chroma() == 1, false, unit_type, out),
+    if set.extension() == 1 {
+        return Refusal::Unsupported.into();
+    }
+    match set.payload() {
+        Some(d) => sized(
+            d.write_nal(
+                set.id(),
+                set.chroma() == 1,
+                set.extension() == 1,
+                unit_type,
+                out,
+            ),
             len,
         ),
-        Err(why) => why.into(),
+        None => Refusal::InvalidData.into(),
     }
 }
