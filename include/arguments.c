@@ -1,7 +1,7 @@
 /* Every call of kendwyra.h with arguments of every sort: null with length 0, lengths one short, inputs that are too
- * long, flags that are neither 0 nor 1, and random bytes, the same in each run. Answers are checked where they are known,
- * and that a refusal changes nothing. Each buffer is as long as the call is told, so that a tool for memory errors sees
- * each byte touched outside it. */
+ * long, flags that are neither 0 nor 1, headers of any bytes, and random bytes, the same in each run. Answers are checked
+ * where they are known, and that a refusal changes nothing. Each buffer is as long as the call is told, so that a tool for
+ * memory errors sees each byte touched outside it. */
 #include "kendwyra.h"
 
 #include <stdio.h>
@@ -67,6 +67,35 @@ static int same(const uint8_t *a, const uint8_t *b, size_t len)
     return len == 0 || memcmp(a, b, len) == 0;
 }
 
+/* ---- headers */
+
+/* Those of the full sets' units. */
+static const aps_unit_header headers[3] = {{17, 0, 1}, {18, 55, 7}, {17, 3, 2}};
+
+static int is_aps(uint8_t type)
+{
+    return type == 17 || type == 18;
+}
+
+/* Whether a unit is read and written with it. */
+static int is_taken(aps_unit_header header)
+{
+    return is_aps(header.nal_unit_type) && header.nuh_layer_id <= 55 && header.nuh_temporal_id_plus1 >= 1 &&
+           header.nuh_temporal_id_plus1 <= 7;
+}
+
+/* That of a unit; where its forbidden or reserved bit is 1, the layer is 64 or more. */
+static aps_unit_header header_of(const uint8_t *unit)
+{
+    return (aps_unit_header){unit[1] / 8, unit[0], unit[1] % 8};
+}
+
+static int same_header(aps_unit_header a, aps_unit_header b)
+{
+    return a.nal_unit_type == b.nal_unit_type && a.nuh_layer_id == b.nuh_layer_id &&
+           a.nuh_temporal_id_plus1 == b.nuh_temporal_id_plus1;
+}
+
 /* ---- the calls of each kind under one type */
 
 typedef struct range {
@@ -113,9 +142,9 @@ typedef struct calls {
     const range *flags;
     uint32_t (*parse_rbsp)(const uint8_t *bytes, size_t len, void *set, uint64_t end[1]);
     uint32_t (*parse)(const uint8_t *unit, size_t len, uint8_t *work, size_t room, void *set, uint64_t end[1]);
-    uint32_t (*lookup)(const uint8_t table[APS_TABLE_BYTES], uint8_t id, void *set);
+    uint32_t (*lookup)(const uint8_t table[APS_TABLE_BYTES], uint8_t id, void *set, aps_unit_header *header);
     uint32_t (*write)(const void *set, uint8_t *out, size_t room, uint64_t len[1]);
-    uint32_t (*write_nal)(const void *set, uint8_t unit_type, uint8_t *out, size_t room, uint64_t len[1]);
+    uint32_t (*write_nal)(const void *set, aps_unit_header header, uint8_t *out, size_t room, uint64_t len[1]);
     uint32_t (*end)(const uint8_t *bytes, size_t len, uint64_t end[1]);
     uint32_t (*rewrite)(const uint8_t *bytes, size_t len, uint8_t *out, size_t room, uint64_t written[1]);
 } calls;
@@ -129,17 +158,19 @@ typedef struct calls {
     {                                                                                                                     \
         return aps_##name##_parse(unit, len, work, room, set, end);                                                       \
     }                                                                                                                     \
-    static uint32_t name##_lookup(const uint8_t table[APS_TABLE_BYTES], uint8_t id, void *set)                            \
+    static uint32_t name##_lookup(const uint8_t table[APS_TABLE_BYTES], uint8_t id, void *set,                            \
+                                  aps_unit_header *header)                                                                \
     {                                                                                                                     \
-        return aps_##name##_lookup(table, id, set);                                                                       \
+        return aps_##name##_lookup(table, id, set, header);                                                               \
     }                                                                                                                     \
     static uint32_t name##_write(const void *set, uint8_t *out, size_t room, uint64_t len[1])                             \
     {                                                                                                                     \
         return aps_##name##_write(set, out, room, len);                                                                   \
     }                                                                                                                     \
-    static uint32_t name##_write_nal(const void *set, uint8_t unit_type, uint8_t *out, size_t room, uint64_t len[1])      \
+    static uint32_t name##_write_nal(const void *set, aps_unit_header header, uint8_t *out, size_t room,                  \
+                                     uint64_t len[1])                                                                     \
     {                                                                                                                     \
-        return aps_##name##_write_nal(set, unit_type, out, room, len);                                                    \
+        return aps_##name##_write_nal(set, header, out, room, len);                                                       \
     }
 
 CALLS(alf)
@@ -259,7 +290,7 @@ static void write_sets(void)
 
         check("a full set", kinds[i].write(full[i], rbsps[i], RBSP, len), 0);
         rbsp_len[i] = len[0];
-        check("its unit", kinds[i].write_nal(full[i], 17, units[i], ROOM, len), 0);
+        check("its unit", kinds[i].write_nal(full[i], headers[i], units[i], ROOM, len), 0);
         unit_len[i] = len[0];
         rbsp_len[3 + i] = (size_t)i + 2;
         memcpy(rbsps[3 + i], small[i], rbsp_len[3 + i]);
@@ -385,13 +416,21 @@ static reading read_unit(const uint8_t *from, size_t len, uint8_t *table)
     uint8_t *unit = lend_copy(from, len), *first = NULL, header[5] = {9, 9, 9, 9, 9};
     size_t room = len > 2 ? len - 2 : 0;
     reading r = {0, {0, 0, 0, 0}, 0};
-    uint32_t code, is_aps = len >= 2 && (from[1] / 8 == 17 || from[1] / 8 == 18);
+    uint32_t code;
+    int passed = len >= 2 && !is_aps(from[1] / 8), read = len >= 2 && is_taken(header_of(from));
 
     code = aps_parse_nal_header(unit, len, header);
     check("header", code, len < 2 ? APS_UNEXPECTED_END : 0);
-    check("type", header[3], len < 2 ? 9 : from[1] / 8);
+    if (code) {
+        check("no field", header[0] == 9 && header[1] == 9 && header[2] == 9 && header[3] == 9 && header[4] == 9, 1);
+    } else {
+        check("two bits", header[0] * 2 + header[1], from[0] / 64);
+        check("layer", header[2], from[0] % 64);
+        check("type", header[3], from[1] / 8);
+        check("temporal id plus one", header[4], from[1] % 8);
+    }
     for (int shorter = room > 0; shorter >= 0; shorter--) {
-        uint8_t *work = lend(room - (size_t)shorter);
+        uint8_t *work = lend(room - (size_t)shorter), *before;
         uint64_t end[1] = {77};
 
         r.head = (aps_head){UNTOUCHED, UNTOUCHED, UNTOUCHED, UNTOUCHED};
@@ -400,12 +439,12 @@ static reading read_unit(const uint8_t *from, size_t len, uint8_t *table)
         one_head(&r);
         if (len < 2) {
             check("no unit", r.code, APS_UNEXPECTED_END);
-        } else if (!is_aps) {
-            check("another type", r.code, APS_INVALID_DATA);
+        } else if (!read) {
+            check("another header", r.code, APS_INVALID_DATA);
         } else if (shorter) {
             check("a short work buffer", r.code, APS_OUTPUT_TOO_SHORT);
         }
-        if (!is_aps || shorter) {
+        if (!read || shorter) {
             check("no work", untouched(work, 0, room - (size_t)shorter), 1);
         }
         first = work;
@@ -422,16 +461,21 @@ static reading read_unit(const uint8_t *from, size_t len, uint8_t *table)
             free(work);
         }
         work = lend(room - (size_t)shorter);
+        before = lend_copy(table, APS_TABLE_BYTES);
         code = aps_take_unit(table, unit, len, work, room - (size_t)shorter);
-        check("taken", code, len >= 2 && !is_aps ? (uint32_t)APS_PASSED_OVER : r.code);
+        check("taken", code, passed ? (uint32_t)APS_PASSED_OVER : r.code);
         check("the work of it", same(work, first, room - (size_t)shorter), 1);
+        check("a table that stays", (read && !shorter) || same(table, before, APS_TABLE_BYTES), 1);
+        free(before);
         free(work);
         free(first);
         if (code == 0) {
             aps_head held;
+            aps_unit_header kept;
 
-            check("held", aps_head_lookup(table, r.head.kind, r.head.aps_adaptation_parameter_set_id, &held), 0);
+            check("held", aps_head_lookup(table, r.head.kind, r.head.aps_adaptation_parameter_set_id, &held, &kept), 0);
             check("the same head", memcmp(&held, &r.head, sizeof held), 0);
+            check("its header", same_header(kept, header_of(from)), 1);
         }
     }
     free(unit);
@@ -444,7 +488,8 @@ static void look_up_all(const uint8_t *table)
     for (int id = 0; id < 256; id = id == 9 ? 255 : id + 1) {
         for (int kind = 0; kind < 5; kind++) {
             aps_head head = {UNTOUCHED, UNTOUCHED, UNTOUCHED, UNTOUCHED};
-            uint32_t code = aps_head_lookup(table, (uint8_t)kind, (uint8_t)id, &head);
+            aps_unit_header header = {UNTOUCHED, UNTOUCHED, UNTOUCHED}, again = header;
+            uint32_t code = aps_head_lookup(table, (uint8_t)kind, (uint8_t)id, &head, &header);
             uint8_t *set;
 
             if (kind > 2 || id > kinds[kind].most_id) {
@@ -453,11 +498,13 @@ static void look_up_all(const uint8_t *table)
                 check("a place", code == 0 || code == APS_EMPTY_PLACE, 1);
             }
             check("no head", code == 0 || untouched(&head, 0, sizeof head), 1);
+            check("a header or none", code == 0 ? is_taken(header) : untouched(&header, 0, sizeof header), 1);
             if (kind > 2) {
                 continue;
             }
             set = lend(kinds[kind].size);
-            check("the same answer", kinds[kind].lookup(table, (uint8_t)id, set), code);
+            check("the same answer", kinds[kind].lookup(table, (uint8_t)id, set, &again), code);
+            check("the same header", same_header(again, header), 1);
             if (code) {
                 check("no set", untouched(set, 0, kinds[kind].size), 1);
             } else {
@@ -509,6 +556,7 @@ static void nothing(void)
     check("no counts", counts[0] == 0 && counts[1] == 0 && counts[2] == 0, 1);
     check("no unit", aps_take_unit(table, NULL, 0, NULL, 0), APS_UNEXPECTED_END);
     check("a header alone", aps_take_unit(table, (const uint8_t[]){0, 0x89}, 2, NULL, 0), APS_UNEXPECTED_END);
+    check("one of a layer 56", aps_take_unit(table, (const uint8_t[]){56, 0x89}, 2, NULL, 0), APS_INVALID_DATA);
     check("another type", aps_take_unit(table, (const uint8_t[]){0, 9}, 2, NULL, 0), APS_PASSED_OVER);
     check("no work buffer", aps_take_unit(table, units[0], unit_len[0], NULL, 0), APS_OUTPUT_TOO_SHORT);
     check("an empty list", aps_write_list(table, NULL, 0, len), 0);
@@ -532,8 +580,8 @@ static void nothing(void)
         check("no room for it", k->rewrite(rbsps[i], rbsp_len[i], NULL, 0, len), APS_OUTPUT_TOO_SHORT);
         check("no room to rewrite", aps_rewrite(rbsps[i], rbsp_len[i], NULL, 0, len), APS_OUTPUT_TOO_SHORT);
         check("no room to write", k->write(full[i], NULL, 0, len), APS_OUTPUT_TOO_SHORT);
-        check("no room for a unit", k->write_nal(full[i], 18, NULL, 0, len), APS_OUTPUT_TOO_SHORT);
-        check("no unit of a type 0", k->write_nal(full[i], 0, NULL, 0, len), APS_INVALID_DATA);
+        check("no room for a unit", k->write_nal(full[i], headers[i], NULL, 0, len), APS_OUTPUT_TOO_SHORT);
+        check("no unit of zeros", k->write_nal(full[i], (aps_unit_header){0, 0, 0}, NULL, 0, len), APS_INVALID_DATA);
         check("set kept", untouched(set, 0, k->size), 1);
         free(set);
     }
@@ -554,7 +602,8 @@ static void one_short(void)
         const calls *k = &kinds[i];
         uint8_t *table = lend(APS_TABLE_BYTES), *out = lend(unit_len[i] - 1), *stream = lend(unit_len[i] + 3);
         uint64_t len[1] = {77}, counts[3] = {9, 9, 9};
-        uint32_t code = k->write_nal(full[i], 17, out, unit_len[i] - 1, len);
+        uint8_t *list;
+        uint32_t code = k->write_nal(full[i], headers[i], out, unit_len[i] - 1, len);
         size_t list_len, escaped = unit_len[i] - 2;
 
         written("a unit one short", code, APS_OUTPUT_TOO_SHORT, out, unit_len[i] - 1, len[0]);
@@ -580,8 +629,10 @@ static void one_short(void)
         check("a whole stream", aps_take_stream(table, stream, unit_len[i] + 3, out, unit_len[i] + 3, counts), 0);
         check("its unit taken", counts[0] == 1 && counts[1] == 0 && counts[2] == 0, 1);
         check("its RBSP", same(out, rbsps[i], rbsp_len[i]), 1);
-        free(write_list(table, &list_len));
+        list = write_list(table, &list_len);
         check("a list of one", (long long)list_len, (long long)unit_len[i] + 4);
+        check("the unit itself", list_len > 4 && same(list + 4, units[i], unit_len[i]), 1);
+        free(list);
         look_up_all(table);
 
         for (size_t bytes = 0; bytes < 3; bytes++) {
@@ -638,22 +689,34 @@ static void too_long(void)
 
 /* ---- flags that are neither 0 nor 1 */
 
-static void write_all(const calls *k, const uint8_t *set, uint32_t due)
+/* A set as a unit of a header, which is refused before the set is. */
+static void write_unit(const calls *k, const uint8_t *set, aps_unit_header header, uint32_t due)
 {
     uint8_t *out = lend(ROOM);
+    uint64_t len[1] = {77};
+    uint32_t code = k->write_nal(set, header, out, ROOM, len);
 
-    for (int type = 15; type < 21; type++) {
-        uint64_t len[1] = {77};
-        uint32_t code = k->write_nal(set, (uint8_t)type, out, ROOM, len);
-
-        written("a unit of it", code, type == 17 || type == 18 ? due : APS_INVALID_DATA, out, ROOM, len[0]);
-        memset(out, UNTOUCHED, ROOM);
-        len[0] = 77;
-        code = k->write(set, out, ROOM, len);
-        written("an RBSP of it", code, due, out, ROOM, len[0]);
-        memset(out, UNTOUCHED, ROOM);
+    written("a unit of it", code, is_taken(header) ? due : (uint32_t)APS_INVALID_DATA, out, ROOM, len[0]);
+    if (code == 0) {
+        check("a unit's header", same_header(header_of(out), header), 1);
     }
     free(out);
+}
+
+static void write_all(const calls *k, const uint8_t *set, uint32_t due)
+{
+    static const aps_unit_header some[] = {
+        {17, 0, 1}, {18, 0, 1}, {16, 0, 1}, {19, 0, 1}, {17, 55, 7}, {18, 55, 1}, {17, 56, 1}, {18, 0, 0}, {17, 0, 8},
+    };
+    uint8_t *out = lend(ROOM);
+    uint64_t len[1] = {77};
+    uint32_t code = k->write(set, out, ROOM, len);
+
+    written("an RBSP of it", code, due, out, ROOM, len[0]);
+    free(out);
+    for (size_t i = 0; i < sizeof some / sizeof *some; i++) {
+        write_unit(k, set, some[i], due);
+    }
 }
 
 static void wrong_flags(void)
@@ -684,6 +747,53 @@ static void wrong_flags(void)
         }
         write_all(k, set, 0);
         free(set);
+    }
+}
+
+/* ---- headers of any bytes */
+
+/* A small set, and the same cut off, under each first byte with a set's type and each second byte without a layer. */
+static void read_headers(void)
+{
+    uint8_t *table = lend(APS_TABLE_BYTES), unit[6] = {0}, work[4];
+
+    aps_table_new(table);
+    for (int bytes = 0; bytes < 65536; bytes++) {
+        const uint8_t first = (uint8_t)(bytes / 256), second = (uint8_t)(bytes % 256);
+        const int i = (first + second) % 3;
+        const size_t len = 2 + rbsp_len[3 + i];
+        aps_unit_header header;
+        uint8_t *set;
+        int read;
+
+        if (first && !is_aps(second / 8)) {
+            continue;
+        }
+        memcpy(unit + 2, rbsps[3 + i], rbsp_len[3 + i]);
+        unit[0] = 0;
+        unit[1] = 0x89;
+        check("its place filled", aps_take_unit(table, unit, len, work, sizeof work), 0);
+        unit[0] = first;
+        unit[1] = second;
+        read = is_taken(header_of(unit));
+        check("a small set", read_unit(unit, len, table).code, read ? 0 : APS_INVALID_DATA);
+        check("cut off", read_unit(unit, len - 1, table).code, read ? APS_UNEXPECTED_END : APS_INVALID_DATA);
+        set = lend(kinds[i].size);
+        check("its place after that", kinds[i].lookup(table, 0, set, &header), read ? APS_EMPTY_PLACE : 0);
+        free(set);
+    }
+    free(table);
+}
+
+/* The full sets with each number in each field. */
+static void write_headers(void)
+{
+    for (int i = 0; i < 3; i++) {
+        for (int number = 0; number < 256; number++) {
+            write_unit(&kinds[i], full[i], (aps_unit_header){(uint8_t)number, 0, 1}, 0);
+            write_unit(&kinds[i], full[i], (aps_unit_header){17, (uint8_t)number, 1}, 0);
+            write_unit(&kinds[i], full[i], (aps_unit_header){18, 55, (uint8_t)number}, 0);
+        }
     }
 }
 
@@ -730,15 +840,14 @@ static size_t random_rbsp(uint8_t bytes[RBSP])
     return below(4) ? len : below(len);
 }
 
-/* A unit of such bytes, mostly of type 17 or 18 and with escapes. */
+/* A unit of such bytes, mostly of a header that is read and with escapes. */
 static size_t random_unit(uint8_t unit[ROOM + 2])
 {
     static uint8_t rbsp[RBSP];
-    static const uint8_t second[4] = {0x89, 0x91, 0x90, 0x8F};
     size_t len = random_rbsp(rbsp);
 
-    unit[0] = (uint8_t)below(256);
-    unit[1] = below(8) ? second[below(4)] : (uint8_t)below(256);
+    unit[0] = (uint8_t)below(below(8) ? 56 : 256);
+    unit[1] = (uint8_t)(below(8) ? (17 + below(2)) * 8 + 1 + below(7) : below(256));
     if (below(3)) {
         uint64_t escaped[1] = {0};
 
@@ -779,9 +888,9 @@ static void random_escapes(void)
 static void random_stream(uint8_t *table)
 {
     static uint8_t made[8 * (ROOM + 6)];
-    uint8_t *stream, *work, *before = lend_copy(table, APS_TABLE_BYTES), *second = lend(APS_TABLE_BYTES), *list;
+    uint8_t *stream, *work, *before = lend_copy(table, APS_TABLE_BYTES), *second = lend(APS_TABLE_BYTES), *list, *again;
     uint64_t counts[3] = {9, 9, 9};
-    size_t len = 0, list_len, units_in = below(6);
+    size_t len = 0, list_len, again_len, units_in = below(6);
     uint32_t code;
 
     if (below(8) == 0) {
@@ -812,8 +921,11 @@ static void random_stream(uint8_t *table)
     check("a list taken", aps_take_stream(second, list, list_len, work, list_len, counts), 0);
     check("all of it", counts[1] == 0 && counts[2] == 0, 1);
     look_up_all(second);
+    again = write_list(second, &again_len);
+    check("the list of that", again_len == list_len && same(again, list, list_len), 1);
     free(work);
     free(list);
+    free(again);
     free(before);
     free(second);
     if (below(16) == 0) {
@@ -886,6 +998,8 @@ static void random_set(const calls *k, const void *full_set)
         read_rbsp(out, len[0]);
     }
     write_all(k, set, code);
+    write_unit(k, set, (aps_unit_header){(uint8_t)below(256), (uint8_t)below(256), (uint8_t)below(256)}, code);
+    write_unit(k, set, (aps_unit_header){(uint8_t)(16 + below(4)), (uint8_t)below(64), (uint8_t)below(9)}, code);
     free(set);
     free(out);
     free(again);
@@ -926,6 +1040,8 @@ int main(int argc, char **argv)
     one_short();
     too_long();
     wrong_flags();
+    read_headers();
+    write_headers();
     at_random(argc > 1 ? atol(argv[1]) : 2000);
     if (failures == 0) {
         puts("every argument is answered as the header says");

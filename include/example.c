@@ -15,7 +15,7 @@ static void check(const char *what, long long got, long long wanted)
 }
 
 static const uint8_t stream[] = {0, 0, 0, 1, 0x00, 0x89, 0x20, 0x42, 0x12, 0, 0, 0, 1, 0x00, 0x91, 0x00, 0x10};
-static const uint8_t list[] = {0, 0, 0, 1, 0x00, 0x89, 0x00, 0x10, 0, 0, 0, 1, 0x00, 0x89, 0x20, 0x42, 0x12};
+static const uint8_t list[] = {0, 0, 0, 1, 0x00, 0x91, 0x00, 0x10, 0, 0, 0, 1, 0x00, 0x89, 0x20, 0x42, 0x12};
 
 static uint8_t table[APS_TABLE_BYTES];
 static uint8_t second[APS_TABLE_BYTES];
@@ -30,20 +30,25 @@ static void sets_in_force(void)
 {
     uint64_t counts[3], len[1];
     aps_head head;
+    aps_unit_header header;
 
     aps_table_new(table);
     check("stream", aps_take_stream(table, stream, sizeof stream, work, sizeof work, counts), 0);
     check("accepted", counts[0], 2);
     check("refused", counts[1], 0);
     check("passed over", counts[2], 0);
-    check("LMCS 0", aps_lmcs_lookup(table, 0, &lmcs), 0);
+    check("LMCS 0", aps_lmcs_lookup(table, 0, &lmcs, &header), 0);
     check("delta max", lmcs.lmcs_delta_max_bin_idx, 15);
-    check("head", aps_head_lookup(table, APS_ALF, 0, &head), 0);
+    check("type", header.nal_unit_type, 17);
+    check("layer", header.nuh_layer_id, 0);
+    check("temporal id plus one", header.nuh_temporal_id_plus1, 1);
+    check("head", aps_head_lookup(table, APS_ALF, 0, &head, &header), 0);
     check("kind", head.kind, APS_ALF);
     check("id", head.aps_adaptation_parameter_set_id, 0);
     check("chroma", head.aps_chroma_present_flag, 0);
     check("extension", head.aps_extension_flag, 0);
-    check("ALF 0", aps_alf_lookup(table, 0, &alf), 0);
+    check("head's type", header.nal_unit_type, 18);
+    check("ALF 0", aps_alf_lookup(table, 0, &alf, &header), 0);
     check("luma filters", alf.alf_luma_filter_signal_flag, 0);
 
     check("list", aps_write_list(table, out, sizeof out, len), 0);
@@ -52,12 +57,16 @@ static void sets_in_force(void)
 
     aps_table_new(second);
     check("read back", aps_take_stream(second, out, len[0], work, sizeof work, counts), 0);
-    check("LMCS 0 again", aps_lmcs_lookup(second, 0, &lmcs), 0);
+    check("LMCS 0 again", aps_lmcs_lookup(second, 0, &lmcs, &header), 0);
     check("delta max again", lmcs.lmcs_delta_max_bin_idx, 15);
+    check("type again", header.nal_unit_type, 17);
+    check("ALF 0 again", aps_alf_lookup(second, 0, &alf, &header), 0);
+    check("its type again", header.nal_unit_type, 18);
 }
 
 static void one_set(void)
 {
+    const aps_unit_header header = {17, 0, 1}, layered = {18, 55, 7};
     uint64_t end[1], len[1];
     aps_head head;
 
@@ -70,10 +79,12 @@ static void one_set(void)
     check("written", aps_lmcs_write(&lmcs, out, sizeof out, len), 0);
     check("three bytes", len[0], 3);
     check("the same", memcmp(out, stream + 6, 3), 0);
-    check("unit", aps_lmcs_write_nal(&lmcs, 17, out, sizeof out, len), 0);
+    check("unit", aps_lmcs_write_nal(&lmcs, header, out, sizeof out, len), 0);
     check("the same unit", len[0] == 5 && memcmp(out, stream + 4, 5) == 0, 1);
     check("out of the unit", aps_lmcs_parse(out, 5, work, sizeof work, &lmcs, end), 0);
     check("bit again", end[0], 24);
+    check("a layer", aps_lmcs_write_nal(&lmcs, layered, out, sizeof out, len), 0);
+    check("its header", out[0] == 55 && out[1] == 18 * 8 + 7, 1);
     check("escaped", aps_rbsp_to_ebsp((const uint8_t[]){0, 0, 1}, 3, out, sizeof out, len), 0);
     check("four bytes", len[0], 4);
 }
@@ -81,8 +92,10 @@ static void one_set(void)
 /* Null with length 0, and lengths and flags that are wrong: a number each, never a fault. arguments.c has more. */
 static void refused(void)
 {
+    const aps_unit_header header = {17, 0, 1}, layer_56 = {17, 56, 1};
     uint64_t counts[3], len[1], end[1];
     aps_head head = {9, 9, 9, 9};
+    aps_unit_header kept = {9, 9, 9};
 
     aps_table_new(table);
     check("no bytes", aps_take_stream(table, NULL, 0, NULL, 0, counts), 0);
@@ -90,7 +103,8 @@ static void refused(void)
     check("no RBSP", aps_alf_parse_rbsp(NULL, 0, &alf, end), APS_UNEXPECTED_END);
     check("a set that is cut off", aps_lmcs_parse_rbsp((const uint8_t[]){0x24}, 1, &lmcs, end), APS_UNEXPECTED_END);
     check("another kind", aps_scaling_parse_rbsp(stream + 6, 3, &scaling, end), APS_INVALID_DATA);
-    check("no output", aps_lmcs_write_nal(&lmcs, 17, NULL, 0, len), APS_OUTPUT_TOO_SHORT);
+    check("no output", aps_lmcs_write_nal(&lmcs, header, NULL, 0, len), APS_OUTPUT_TOO_SHORT);
+    check("no such layer", aps_lmcs_write_nal(&lmcs, layer_56, out, sizeof out, len), APS_INVALID_DATA);
     lmcs.lmcs_delta_sign_crs_flag = 2;
     check("a flag 2", aps_lmcs_write(&lmcs, out, sizeof out, len), APS_INVALID_DATA);
     check("nothing to escape", aps_rbsp_to_ebsp(NULL, 0, NULL, 0, len), 0);
@@ -99,14 +113,16 @@ static void refused(void)
     check("short work buffer", aps_take_stream(table, stream, sizeof stream, work, sizeof stream - 1, counts), APS_OUTPUT_TOO_SHORT);
     check("a byte before the first unit", aps_take_stream(table, stream + 4, 5, work, sizeof work, counts), APS_INVALID_DATA);
     check("another type", aps_take_unit(table, (const uint8_t[]){0, 9}, 2, work, sizeof work), APS_PASSED_OVER);
-    check("empty place", aps_head_lookup(table, APS_ALF, 0, &head), APS_EMPTY_PLACE);
-    check("no such place", aps_lmcs_lookup(table, 4, &lmcs), APS_INVALID_DATA);
-    check("no such kind", aps_head_lookup(table, 3, 0, &head), APS_INVALID_DATA);
+    check("layer 56", aps_take_unit(table, (const uint8_t[]){56, 0x89, 0x00, 0x10}, 4, work, sizeof work), APS_INVALID_DATA);
+    check("empty place", aps_head_lookup(table, APS_ALF, 0, &head, &kept), APS_EMPTY_PLACE);
+    check("no such place", aps_lmcs_lookup(table, 4, &lmcs, &kept), APS_INVALID_DATA);
+    check("no such kind", aps_head_lookup(table, 3, 0, &head, &kept), APS_INVALID_DATA);
     check("long stream", aps_take_stream(table, long_input, sizeof long_input, work, sizeof work, counts), APS_INPUT_TOO_LONG);
     check("long unit", aps_take_unit(table, long_input, sizeof long_input, work, sizeof work), APS_INPUT_TOO_LONG);
     check("extension flag 1", aps_take_unit(table, (const uint8_t[]){0, 0x89, 0x00, 0x20}, 4, work, sizeof work), 0);
     check("its list", aps_write_list(table, out, sizeof out, len), APS_UNSUPPORTED);
     check("head kept", head.kind == 9 && head.aps_extension_flag == 9, 1);
+    check("header kept", kept.nal_unit_type == 9 && kept.nuh_temporal_id_plus1 == 9, 1);
 }
 
 int main(void)

@@ -17,7 +17,7 @@ extern "C" {
 /* Refusals. */
 enum {
     APS_UNEXPECTED_END = 1,   /* a unit under 2 bytes; an RBSP that ends before its set does: cut off */
-    APS_INVALID_DATA = 2,     /* a wrong type, kind, id, flag, range, stop bit, padding or stream split; no place */
+    APS_INVALID_DATA = 2,     /* a wrong header, kind, id, flag, range, stop bit, padding or stream split; no place */
     APS_UNSUPPORTED = 3,      /* a kind 3 to 7; extension flag 1 to write */
     APS_INPUT_TOO_LONG = 4,   /* an input over 65,536 bytes */
     APS_OUTPUT_TOO_SHORT = 5, /* a work buffer or an output that is too short */
@@ -31,7 +31,7 @@ enum { APS_PASSED_OVER = 256 };
 enum { APS_ALF = 0, APS_LMCS = 1, APS_SCALING = 2 };
 
 enum {
-    APS_TABLE_BYTES = 30252,   /* a table, which the caller keeps */
+    APS_TABLE_BYTES = 30292,   /* a table, which the caller keeps */
     APS_LIST_BYTES = 45492,    /* no list is longer */
     APS_LONGEST_INPUT = 65536  /* the longest stream, unit or RBSP */
 };
@@ -97,6 +97,14 @@ typedef struct aps_scaling {
     int32_t scaling_list[28][64];     /* in the order of the diagonal scan */
 } aps_scaling;
 
+/* What a set that is held keeps of its unit's header: type 17 or 18, layer 0 to 55 and temporal id plus one 1 to 7. A unit
+ * that is read or written is refused with 2 for another, and one that is read also for a forbidden or reserved bit of 1. */
+typedef struct aps_unit_header {
+    uint8_t nal_unit_type;
+    uint8_t nuh_layer_id;
+    uint8_t nuh_temporal_id_plus1;
+} aps_unit_header;
+
 /* ---- the table */
 
 /* Every place of the table empty, whatever its bytes were. */
@@ -111,18 +119,22 @@ uint32_t aps_take_stream(uint8_t table[APS_TABLE_BYTES], const uint8_t *bytes, s
 
 /* A unit alone, without a start code: 0, APS_PASSED_OVER or a refusal. 5: the work buffer is shorter than the unit less 2.
  * A unit that is refused with 1 or 2 after its header empties the place that its RBSP's first byte names (kind * 32 + id):
- * what it should have replaced is out of date. */
+ * what it should have replaced is out of date. A refused header empties none, and leaves the work buffer. */
 uint32_t aps_take_unit(uint8_t table[APS_TABLE_BYTES], const uint8_t *unit, size_t len, uint8_t *work, size_t room);
 
-/* Of the set held for a kind and an id the kind, the id and the flags. 2: they name no place; 6: the place is empty. */
-uint32_t aps_head_lookup(const uint8_t table[APS_TABLE_BYTES], uint8_t kind, uint8_t id, aps_head *head);
+/* Of the set held for a kind and an id the kind, the id and the flags, and its unit's header. 2: they name no place; 6: the
+ * place is empty. */
+uint32_t aps_head_lookup(const uint8_t table[APS_TABLE_BYTES], uint8_t kind, uint8_t id, aps_head *head,
+                         aps_unit_header *header);
 
-/* The set of a kind that is held for an id. 2; 6. */
-uint32_t aps_alf_lookup(const uint8_t table[APS_TABLE_BYTES], uint8_t id, aps_alf *set);
-uint32_t aps_lmcs_lookup(const uint8_t table[APS_TABLE_BYTES], uint8_t id, aps_lmcs *set);
-uint32_t aps_scaling_lookup(const uint8_t table[APS_TABLE_BYTES], uint8_t id, aps_scaling *set);
+/* The set of a kind that is held for an id, and its unit's header. 2; 6. */
+uint32_t aps_alf_lookup(const uint8_t table[APS_TABLE_BYTES], uint8_t id, aps_alf *set, aps_unit_header *header);
+uint32_t aps_lmcs_lookup(const uint8_t table[APS_TABLE_BYTES], uint8_t id, aps_lmcs *set, aps_unit_header *header);
+uint32_t aps_scaling_lookup(const uint8_t table[APS_TABLE_BYTES], uint8_t id, aps_scaling *set,
+                            aps_unit_header *header);
 
-/* The list at a cut, and its length: every set held, each after 00 00 00 01, kind rising, then id. 3; 5. */
+/* The list at a cut, and its length: every set held, as a unit of its own header after 00 00 00 01, kind rising, then id.
+ * 3; 5. */
 uint32_t aps_write_list(const uint8_t table[APS_TABLE_BYTES], uint8_t *out, size_t room, uint64_t len[1]);
 
 /* ---- one set */
@@ -150,12 +162,13 @@ uint32_t aps_alf_write(const aps_alf *set, uint8_t *out, size_t room, uint64_t l
 uint32_t aps_lmcs_write(const aps_lmcs *set, uint8_t *out, size_t room, uint64_t len[1]);
 uint32_t aps_scaling_write(const aps_scaling *set, uint8_t *out, size_t room, uint64_t len[1]);
 
-/* A set as a unit of type 17 or 18, layer 0 and temporal id 0, and its length. 2 first for another type. */
-uint32_t aps_alf_write_nal(const aps_alf *set, uint8_t unit_type, uint8_t *out, size_t room, uint64_t len[1]);
-uint32_t aps_lmcs_write_nal(const aps_lmcs *set, uint8_t unit_type, uint8_t *out, size_t room, uint64_t len[1]);
-uint32_t aps_scaling_write_nal(const aps_scaling *set, uint8_t unit_type, uint8_t *out, size_t room, uint64_t len[1]);
+/* A set as a unit of a header, and its length. 2 first for the header; then as an RBSP. */
+uint32_t aps_alf_write_nal(const aps_alf *set, aps_unit_header header, uint8_t *out, size_t room, uint64_t len[1]);
+uint32_t aps_lmcs_write_nal(const aps_lmcs *set, aps_unit_header header, uint8_t *out, size_t room, uint64_t len[1]);
+uint32_t aps_scaling_write_nal(const aps_scaling *set, aps_unit_header header, uint8_t *out, size_t room,
+                               uint64_t len[1]);
 
-/* The header of a unit: forbidden bit, reserved bit, layer, type, temporal id plus one. */
+/* The header of a unit: forbidden bit, reserved bit, layer, type, temporal id plus one. None of them is judged. */
 uint32_t aps_parse_nal_header(const uint8_t *unit, size_t len, uint8_t header[5]);
 
 /* A set read from an RBSP and written again, and its length. */

@@ -13,12 +13,13 @@ use crate::bit_writer::BitWriter;
 use crate::library::Field;
 use crate::{nal, BitstreamError};
 
-/// Refusals that the Rust does not have: it takes inputs of any length and any start and width, and its outputs grow.
-/// 4 is a long input, 2 a far start or a wide field, 5 a short output or work buffer; in this order.
+/// Refusals that the Rust does not have: it takes inputs of any length, any start and width, and any header of an APS unit's type, and its
+/// outputs grow. 4 is a long input, 2 a far start, a wide field or such a header, 5 a short output or work buffer; in this order.
 pub mod document {
     pub const LONGEST: usize = 65_536;
     pub const FARTHEST: usize = 1_048_576;
     pub const WIDEST: u32 = 32;
+    pub const LAST_LAYER: u8 = 55;
 
     pub fn read(len: usize, at: usize, n: u32) -> Result<(), u32> {
         if len > LONGEST {
@@ -37,6 +38,14 @@ pub mod document {
     pub fn escape(len: usize) -> Result<(), u32> {
         if len > LONGEST {
             return Err(4);
+        }
+        Ok(())
+    }
+
+    /// What a header of type 17 or 18 has besides: its two zero bits, the layer and the temporal id plus one.
+    pub fn header(zero_bits: [u8; 2], layer: u8, temporal_id_plus1: u8) -> Result<(), u32> {
+        if zero_bits != [0, 0] || layer > LAST_LAYER || !(1..=7).contains(&temporal_id_plus1) {
+            return Err(2);
         }
         Ok(())
     }

@@ -9,6 +9,7 @@ mod calls;
 mod escapes;
 mod expected;
 mod fields;
+mod headers;
 mod library;
 mod random;
 mod records;

@@ -1,26 +1,25 @@
 //! Sets read from RBSPs and from units, compared at scale.
 
 pub mod make;
+mod units;
 
 use crate::expected;
 use crate::h266::aps;
-use crate::library::sets::{kind_of, nal_header, Answer, Lent};
-use crate::nal;
+use crate::library::sets::{kind_of, Answer, Lent};
 use crate::random::Random;
 use crate::tally::Tally;
 use make::{Maker, STYLES};
 
 pub fn compare() -> Vec<Tally> {
-    vec![
+    let mut rows = vec![
         every_short_rbsp(),
         random_rbsps(),
         written_rbsps(),
         cut_rbsps(),
         flipped_and_long_rbsps(),
-        units(),
-        unit_boundaries(),
-        headers(),
-    ]
+    ];
+    rows.extend(units::compare());
+    rows
 }
 
 /// What the call of another kind answers: the same refusal, and 2 for a set.
@@ -192,133 +191,6 @@ fn flipped_and_long_rbsps() -> Tally {
                 }
             }
         }
-    }
-    t
-}
-
-/// One unit with a work buffer, as an RBSP above: the answer, and every byte of the buffer after it.
-fn unit(t: &mut Tally, lent: &mut Lent, unit: &[u8], work: &[u8]) {
-    let asked = || format!("unit {unit:02X?} with {} bytes of work", work.len());
-    let (expected, after) = expected::sets::parse(unit, work);
-    let own = kind_of(unit.get(2));
-    let mut read = work.to_vec();
-    beside(
-        t,
-        || format!("head, {}", asked()),
-        lent.head_of_unit(unit, &mut read),
-        head(&expected),
-    );
-    same_work(t, asked, &read, &after);
-    for kind in (0..3).filter(|&kind| kind != own) {
-        read.copy_from_slice(work);
-        let answer = lent.parse(kind, unit, &mut read);
-        beside(
-            t,
-            || format!("by kind {kind}, {}", asked()),
-            answer,
-            of_another_kind(&expected),
-        );
-        same_work(t, asked, &read, &after);
-    }
-    read.copy_from_slice(work);
-    t.same(asked, (lent.parse(own, unit, &mut read), read), (expected, after));
-}
-
-fn same_work(t: &mut Tally, asked: impl FnOnce() -> String, library: &[u8], expected: &[u8]) {
-    if library != expected {
-        t.same(|| format!("work after {}", asked()), library, expected);
-    }
-}
-
-/// Work buffers just long enough, one byte less, longer and empty.
-fn unit_into_each_room(t: &mut Tally, lent: &mut Lent, bytes: &[u8], filler: &[u8]) {
-    let due = bytes.len().saturating_sub(2);
-    for room in [due, due.saturating_sub(1), due + 5, 0] {
-        unit(t, lent, bytes, &filler[..room]);
-    }
-}
-
-fn header(random: &mut Random) -> [u8; 2] {
-    let unit_type = match random.below(8) {
-        0 => random.below(32),
-        1..=3 => 18,
-        _ => 17,
-    };
-    [random.next() as u8, (unit_type << 3 | random.below(8)) as u8]
-}
-
-fn units() -> Tally {
-    let mut t = Tally::new("units: headers, escapes and work buffers");
-    let mut random = Random::new(13);
-    let mut lent = Lent::new();
-    let filler = random.bytes(8_000);
-    for round in 0..8_000 {
-        for kind in 0..3 {
-            let good = written(&mut random, kind, round);
-            let body = match random.below(4) {
-                0 => good,
-                1 => [&good[..1], &random.escapable(12)].concat(),
-                _ => nal::rbsp_to_ebsp(&good),
-            };
-            let bytes = [&header(&mut random)[..], &body].concat();
-            unit_into_each_room(&mut t, &mut lent, &bytes, &filler);
-            let mut damaged = bytes.clone();
-            flip(&mut damaged, random.below(bytes.len() * 8));
-            unit_into_each_room(&mut t, &mut lent, &damaged, &filler);
-        }
-    }
-    t
-}
-
-fn unit_boundaries() -> Tally {
-    let mut t = Tally::new("units: every header, short and the longest units");
-    let mut random = Random::new(14);
-    let mut lent = Lent::new();
-    let filler = random.bytes(65_560);
-    for first in 0..=255 {
-        for second in 0..=255 {
-            unit_into_each_room(&mut t, &mut lent, &[first, second, 0, 0x10], &filler);
-            unit_into_each_room(&mut t, &mut lent, &[first, second], &filler);
-        }
-        unit_into_each_room(&mut t, &mut lent, &[first], &filler);
-    }
-    unit_into_each_room(&mut t, &mut lent, &[], &filler);
-    for body in [
-        &[0x20, 0x42, 0x12, 0, 0, 3][..],
-        &[0, 0, 3, 0x10],
-        &[0, 0, 3],
-        &[0, 0x10, 0, 0, 3, 1],
-    ] {
-        for len in body.len()..body.len() + 3 {
-            let bytes = [&[0, 0x89][..], body, &[0, 0, 3][..len - body.len()]].concat();
-            unit_into_each_room(&mut t, &mut lent, &bytes, &filler);
-        }
-    }
-    for len in 65_530..=65_540 {
-        for rest in [random.bytes(len - 4), random.escapable(len - 4), vec![0; len - 4]] {
-            let bytes = [&[0, 0x91, 0, 0x10][..], &rest].concat();
-            unit_into_each_room(&mut t, &mut lent, &bytes, &filler);
-        }
-    }
-    t
-}
-
-fn headers() -> Tally {
-    let mut t = Tally::new("headers: every two bytes, and every length");
-    for first in 0..=255 {
-        for second in 0..=255 {
-            let unit = [first, second, 0x12];
-            for len in 0..=3 {
-                let unit = &unit[..len];
-                let asked = || format!("header of {unit:02X?}");
-                t.same(asked, nal_header(unit), expected::sets::nal_header(unit));
-            }
-        }
-    }
-    for len in 65_530..=65_540 {
-        let unit = vec![0x91; len];
-        let asked = || format!("header of {len} bytes");
-        t.same(asked, nal_header(&unit), expected::sets::nal_header(&unit));
     }
     t
 }

@@ -69,7 +69,16 @@ impl Both {
         }
     }
 
-    /// Every number of the set held for a kind and an id, or the refusal.
+    /// A lookup of each place that is still filled after a unit of the last call was refused for its header and named it with a damaged RBSP.
+    fn kept(&mut self, t: &mut Tally, lent: &mut Lent, number: u64) {
+        for (kind, id) in std::mem::take(&mut self.expected.kept) {
+            if self.expected.held(kind, id).is_ok() {
+                self.lookup(t, lent, number, (kind, id));
+            }
+        }
+    }
+
+    /// Every number of the set held for a kind and an id and its header, or the refusal.
     fn lookup(&self, t: &mut Tally, lent: &mut Lent, number: u64, (kind, id): (u8, u8)) {
         t.same(
             || format!("sequence {number}: lookup of kind {kind}, id {id}"),

@@ -1,11 +1,15 @@
 //! Sets written as RBSPs and as units, compared at scale: records in range, with numbers off, and at the limits of their types.
 
+mod units;
+
 use crate::expected;
+use crate::headers::Header;
 use crate::library::sets::{kind_rewrite, rewrite, write, write_nal, HEAD};
 use crate::library::structs::{flags, types};
 use crate::random::Random;
 use crate::sets::make::{Maker, STYLES};
 use crate::tally::Tally;
+use units::{good_header, unit};
 
 pub fn compare() -> Vec<Tally> {
     vec![
@@ -13,7 +17,8 @@ pub fn compare() -> Vec<Tally> {
         one_number_off(),
         some_numbers_off(),
         limits(),
-        units(),
+        units::any_units(),
+        units::header_limits(),
         no_flags(),
         every_id(),
         rewritten(),
@@ -34,17 +39,6 @@ fn rbsp(t: &mut Tally, set: &[i64], room: usize) {
     );
 }
 
-fn unit(t: &mut Tally, set: &[i64], unit_type: u8, room: usize) {
-    let before = vec![FILLER; room];
-    let mut after = before.clone();
-    let answer = write_nal(set, unit_type, &mut after);
-    t.same(
-        || format!("unit type {unit_type}, {room} bytes for {:?}", shown(set)),
-        (answer, after),
-        expected::written::write_nal(set, unit_type, &before),
-    );
-}
-
 fn shown(set: &[i64]) -> Vec<(usize, i64)> {
     set.iter().copied().enumerate().filter(|&(_, n)| n != 0).collect()
 }
@@ -54,15 +48,6 @@ fn rbsp_into_each_room(t: &mut Tally, set: &[i64]) {
     let due = expected::written::write(set, &[FILLER; 5_000]).0.unwrap_or(3);
     for room in [due, due - 1, due + 7, 0] {
         rbsp(t, set, room);
-    }
-}
-
-fn unit_into_each_room(t: &mut Tally, set: &[i64], unit_type: u8) {
-    let due = expected::written::write_nal(set, unit_type, &[FILLER; 5_000])
-        .0
-        .unwrap_or(3);
-    for room in [due, due - 1, due + 7, 2, 1, 0] {
-        unit(t, set, unit_type, room);
     }
 }
 
@@ -145,7 +130,7 @@ fn some_numbers_off() -> Tally {
             set[i] = other(&mut random, &set, i);
         }
         rbsp(&mut t, &set, 3_000);
-        unit(&mut t, &set, 17, 5_000);
+        unit(&mut t, &set, good_header(&mut random), 5_000);
     }
     t
 }
@@ -176,33 +161,18 @@ fn limits() -> Tally {
     t
 }
 
-fn units() -> Tally {
-    let mut t = Tally::new("units written: types, escapes and outputs");
-    let mut random = Random::new(24);
-    for unit_type in 0..=255 {
-        let set = in_range(&mut random, unit_type as usize);
-        unit_into_each_room(&mut t, &set, unit_type as u8);
-    }
-    for round in 0..30_000 {
-        let set = in_range(&mut random, round);
-        let unit_type = [17, 18][random.below(2)];
-        unit_into_each_room(&mut t, &set, unit_type);
-    }
-    t
-}
-
-/// Each flag of each kind with bytes that are neither 0 nor 1: 2, or 3 where the extension flag is 1; a unit's type comes first.
+/// Each flag of each kind with bytes that are neither 0 nor 1: 2, or 3 where the extension flag is 1; a unit's header comes first.
 fn no_flags() -> Tally {
     let mut t = Tally::new("flags that are neither 0 nor 1");
     let mut random = Random::new(25);
-    let mut refused = |set: &[i64], name: &str, unit_type: Option<u8>, room: usize, code: u32| {
+    let mut refused = |set: &[i64], name: &str, header: Option<Header>, room: usize, code: u32| {
         let before = vec![FILLER; room];
         let mut after = before.clone();
-        let answer = match unit_type {
+        let answer = match header {
             None => write(set, &mut after),
-            Some(n) => write_nal(set, n, &mut after),
+            Some(header) => write_nal(set, header, &mut after),
         };
-        let asked = || format!("{name}, unit type {unit_type:?}, {room} bytes for {:?}", shown(set));
+        let asked = || format!("{name}, unit of header {header:?}, {room} bytes for {:?}", shown(set));
         t.same(asked, (answer, &after), (Err(code), &before));
     };
     for round in 0..24 {
@@ -216,8 +186,12 @@ fn no_flags() -> Tally {
                     let code = if set[3] == 1 { 3 } else { 2 };
                     let room = [3_000, 0][random.below(2)];
                     refused(&set, name, None, room, code);
-                    refused(&set, name, Some(17 + random.below(2) as u8), room, code);
-                    refused(&set, name, Some(19 + random.below(237) as u8), room, 2);
+                    let [unit_type, layer, temporal_id_plus1] = good_header(&mut random);
+                    let other = 19 + random.below(237) as u8;
+                    refused(&set, name, Some([unit_type, layer, temporal_id_plus1]), room, code);
+                    refused(&set, name, Some([other, layer, temporal_id_plus1]), room, 2);
+                    refused(&set, name, Some([unit_type, layer + 56, temporal_id_plus1]), room, 2);
+                    refused(&set, name, Some([unit_type, layer, temporal_id_plus1 + 7]), room, 2);
                 }
             }
         }
@@ -236,7 +210,7 @@ fn every_id() -> Tally {
                 let mut set = good.clone();
                 (set[1], set[3]) = (id, extension);
                 rbsp(&mut t, &set, 3_000);
-                unit(&mut t, &set, 18, 5_000);
+                unit(&mut t, &set, good_header(&mut random), 5_000);
             }
         }
     }

@@ -8,7 +8,7 @@ use std::fmt;
 pub enum Refusal {
     /// A unit under 2 bytes, or an RBSP that ends before its set does: cut off.
     UnexpectedEnd = 1,
-    /// A wrong unit type, kind, id, range, stop bit, padding, stream split or value, or an id that names no place.
+    /// A wrong unit header, kind, id, range, stop bit, padding, stream split or value, or an id that names no place.
     InvalidData = 2,
     /// A kind that has no syntax yet, or extension flag 1 to write.
     Unsupported = 3,
@@ -44,7 +44,7 @@ impl fmt::Display for Refusal {
     fn fmt(&self, f: &mut fmt::Formatter<'_>) -> fmt::Result {
         f.write_str(match self {
             Refusal::UnexpectedEnd => "the bytes end inside the header or before the set does",
-            Refusal::InvalidData => "a unit type, kind, id, value, stop bit, padding, stream split or place is wrong",
+            Refusal::InvalidData => "a unit header, kind, id, value, stop bit, padding, stream split or place is wrong",
             Refusal::Unsupported => "the kind has no syntax yet, or the set to write has extension flag 1",
             Refusal::InputTooLong => "the input is over 65,536 bytes",
             Refusal::OutputTooShort => "the output or the work buffer is too short",

@@ -13,16 +13,17 @@
 //! let counts = table.take_stream(&stream, &mut work)?;
 //! assert_eq!(counts.accepted, 2);
 //!
-//! let set = table.lmcs(0)?;
-//! assert_eq!(set.lmcs_delta_max_bin_idx, 15);
+//! let held = table.lmcs(0)?;
+//! assert_eq!(held.set.lmcs_delta_max_bin_idx, 15);
+//! assert_eq!(held.header.nal_unit_type, 17);
 //! assert_eq!(table.lookup(Kind::Scaling, 0), Err(Refusal::EmptyPlace));
 //!
-//! // The list at a cut, ALF before LMCS, and a second table that reads it.
+//! // The list at a cut, ALF before LMCS and each with its unit's header, and a second table that reads it.
 //! let list = table.list()?;
-//! assert_eq!(list, [0, 0, 0, 1, 0x00, 0x89, 0x00, 0x10, 0, 0, 0, 1, 0x00, 0x89, 0x20, 0x42, 0x12]);
+//! assert_eq!(list, [0, 0, 0, 1, 0x00, 0x91, 0x00, 0x10, 0, 0, 0, 1, 0x00, 0x89, 0x20, 0x42, 0x12]);
 //! let mut second = Table::new();
 //! second.take_stream(&list, &mut work)?;
-//! assert_eq!(second.lmcs(0)?, set);
+//! assert_eq!(second.lmcs(0)?, held);
 //! # Ok::<(), Refusal>(())
 //! ```
 
@@ -35,11 +36,11 @@ pub mod sets;
 pub mod table;
 
 pub use error::Refusal;
-pub use sets::{Alf, Aps, Head, Kind, Lmcs, Scaling};
-pub use table::{Counts, Table, Taken};
+pub use sets::{Alf, Aps, Head, Kind, Lmcs, Scaling, UnitHeader};
+pub use table::{Counts, Held, Table, Taken};
 
 /// Bytes of a table.
-pub const TABLE_BYTES: usize = 30_252;
+pub const TABLE_BYTES: usize = 30_292;
 
 /// No list at a cut is longer, in bytes.
 pub const LIST_BYTES: usize = 45_492;

@@ -7,7 +7,7 @@
 //! nothing else that is lent. A pointer to a set is that of memory as large and as aligned as the set, readable or writable too; a set that is
 //! written out may be any bytes, flags other than 0 and 1 with them. Any bytes are some table.
 
-use crate::sets::{Alf, Head, Lmcs, Scaling};
+use crate::sets::{Alf, Head, Lmcs, Scaling, UnitHeader};
 use crate::TABLE_BYTES;
 
 /// The code of a unit alone that is neither taken nor refused.
@@ -39,8 +39,8 @@ extern "C" {
     /// An ALF set as an RBSP.
     pub fn aps_alf_write(set: *const Alf, out: *mut u8, room: usize, len: &mut u64) -> u32;
 
-    /// An ALF set as a unit.
-    pub fn aps_alf_write_nal(set: *const Alf, unit_type: u8, out: *mut u8, room: usize, len: &mut u64) -> u32;
+    /// An ALF set as a unit of a header.
+    pub fn aps_alf_write_nal(set: *const Alf, header: UnitHeader, out: *mut u8, room: usize, len: &mut u64) -> u32;
 
     /// The LMCS set of an RBSP, and the bit where reading ended.
     pub fn aps_lmcs_parse_rbsp(bytes: *const u8, len: usize, set: *mut Lmcs, end: &mut u64) -> u32;
@@ -58,8 +58,8 @@ extern "C" {
     /// An LMCS set as an RBSP.
     pub fn aps_lmcs_write(set: *const Lmcs, out: *mut u8, room: usize, len: &mut u64) -> u32;
 
-    /// An LMCS set as a unit.
-    pub fn aps_lmcs_write_nal(set: *const Lmcs, unit_type: u8, out: *mut u8, room: usize, len: &mut u64) -> u32;
+    /// An LMCS set as a unit of a header.
+    pub fn aps_lmcs_write_nal(set: *const Lmcs, header: UnitHeader, out: *mut u8, room: usize, len: &mut u64) -> u32;
 
     /// The scaling set of an RBSP, and the bit where reading ended.
     pub fn aps_scaling_parse_rbsp(bytes: *const u8, len: usize, set: *mut Scaling, end: &mut u64) -> u32;
@@ -77,8 +77,14 @@ extern "C" {
     /// A scaling set as an RBSP.
     pub fn aps_scaling_write(set: *const Scaling, out: *mut u8, room: usize, len: &mut u64) -> u32;
 
-    /// A scaling set as a unit.
-    pub fn aps_scaling_write_nal(set: *const Scaling, unit_type: u8, out: *mut u8, room: usize, len: &mut u64) -> u32;
+    /// A scaling set as a unit of a header.
+    pub fn aps_scaling_write_nal(
+        set: *const Scaling,
+        header: UnitHeader,
+        out: *mut u8,
+        room: usize,
+        len: &mut u64,
+    ) -> u32;
 
     /// The set of an RBSP written again.
     pub fn aps_rewrite(bytes: *const u8, len: usize, out: *mut u8, room: usize, written: &mut u64) -> u32;
@@ -124,17 +130,23 @@ extern "C" {
         counts: &mut [u64; 3],
     ) -> u32;
 
-    /// Of the set held for a kind and an id the kind, the id and the flags.
-    pub fn aps_head_lookup(table: &[u8; TABLE_BYTES], kind: u8, id: u8, head: *mut Head) -> u32;
+    /// Of the set held for a kind and an id the kind, the id and the flags, and its unit's header.
+    pub fn aps_head_lookup(
+        table: &[u8; TABLE_BYTES],
+        kind: u8,
+        id: u8,
+        head: *mut Head,
+        header: *mut UnitHeader,
+    ) -> u32;
 
-    /// The ALF set held for an id.
-    pub fn aps_alf_lookup(table: &[u8; TABLE_BYTES], id: u8, set: *mut Alf) -> u32;
+    /// The ALF set held for an id, and its unit's header.
+    pub fn aps_alf_lookup(table: &[u8; TABLE_BYTES], id: u8, set: *mut Alf, header: *mut UnitHeader) -> u32;
 
-    /// The LMCS set held for an id.
-    pub fn aps_lmcs_lookup(table: &[u8; TABLE_BYTES], id: u8, set: *mut Lmcs) -> u32;
+    /// The LMCS set held for an id, and its unit's header.
+    pub fn aps_lmcs_lookup(table: &[u8; TABLE_BYTES], id: u8, set: *mut Lmcs, header: *mut UnitHeader) -> u32;
 
-    /// The scaling set held for an id.
-    pub fn aps_scaling_lookup(table: &[u8; TABLE_BYTES], id: u8, set: *mut Scaling) -> u32;
+    /// The scaling set held for an id, and its unit's header.
+    pub fn aps_scaling_lookup(table: &[u8; TABLE_BYTES], id: u8, set: *mut Scaling, header: *mut UnitHeader) -> u32;
 
     /// The list at a cut.
     pub fn aps_write_list(table: &[u8; TABLE_BYTES], out: *mut u8, room: usize, len: &mut u64) -> u32;

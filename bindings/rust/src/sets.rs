@@ -7,6 +7,7 @@ mod head;
 mod kind;
 mod lmcs;
 mod scaling;
+mod unit_header;
 
 pub use alf::Alf;
 pub use aps::Aps;
@@ -14,6 +15,7 @@ pub use head::Head;
 pub use kind::Kind;
 pub use lmcs::Lmcs;
 pub use scaling::Scaling;
+pub use unit_header::UnitHeader;
 
 use crate::error::{answer, sized, Refusal};
 use crate::raw;
@@ -24,14 +26,14 @@ pub const NAL_TYPE_PREFIX_APS: u8 = 17;
 /// `nal_unit_type` of a set that comes after its pictures.
 pub const NAL_TYPE_SUFFIX_APS: u8 = 18;
 
-/// A unit's header (H.266 7.3.1.2).
+/// A unit's header (H.266 7.3.1.2), all of it and of any unit.
 #[derive(Debug, Clone, Copy, PartialEq, Eq)]
 pub struct NalHeader {
     /// 1 bit, not judged.
     pub forbidden_zero_bit: u8,
     /// 1 bit, not judged.
     pub nuh_reserved_zero_bit: u8,
-    /// 6 bits.
+    /// 6 bits, not judged.
     pub nuh_layer_id: u8,
     /// 5 bits; 17 and 18 are sets.
     pub nal_unit_type: u8,
@@ -69,9 +71,9 @@ pub fn write(set: &Aps, out: &mut [u8]) -> Result<usize, Refusal> {
     set.write(out)
 }
 
-/// Writes a set as a unit of type 17 or 18 at the start of `out` and gives the length.
-pub fn write_unit(set: &Aps, unit_type: u8, out: &mut [u8]) -> Result<usize, Refusal> {
-    set.write_unit(unit_type, out)
+/// Writes a set as a unit of a header at the start of `out` and gives the length.
+pub fn write_unit(set: &Aps, header: UnitHeader, out: &mut [u8]) -> Result<usize, Refusal> {
+    set.write_unit(header, out)
 }
 
 /// Reads the set of an RBSP, writes it again at the start of `out` and gives the length.

@@ -1,7 +1,7 @@
 //! The table of the sets in force.
 
 use crate::error::{answer, sized, Refusal};
-use crate::sets::{Alf, Aps, Head, Kind, Lmcs, Scaling};
+use crate::sets::{Alf, Aps, Head, Kind, Lmcs, Scaling, UnitHeader};
 use crate::{raw, LIST_BYTES, TABLE_BYTES};
 use std::fmt;
 
@@ -18,12 +18,30 @@ pub enum Taken {
     PassedOver,
 }
 
+/// What a place holds of the unit that was accepted for it.
+#[derive(Debug, Clone, Copy, PartialEq, Eq)]
+pub struct Held<T> {
+    /// The unit's type, layer and temporal id plus one.
+    pub header: UnitHeader,
+    /// Its set, or the set's head.
+    pub set: T,
+}
+
+impl<T> Held<T> {
+    fn map<U>(self, of: impl FnOnce(T) -> U) -> Held<U> {
+        Held {
+            header: self.header,
+            set: of(self.set),
+        }
+    }
+}
+
 /// How the units of a stream were taken.
 #[derive(Debug, Clone, Copy, PartialEq, Eq)]
 pub struct Counts {
     /// Units whose sets are now held.
     pub accepted: usize,
-    /// Units of type 17 or 18, or under 2 bytes, that have no set.
+    /// Units of type 17 or 18, or under 2 bytes, that are refused.
     pub refused: usize,
     /// Units of other types.
     pub passed_over: usize,
@@ -55,7 +73,8 @@ impl Table {
     }
 
     /// Takes a unit alone; `work` has at least the unit's length less 2. A unit that is refused with `UnexpectedEnd` or `InvalidData` after its
-    /// header empties the place that its RBSP's first byte names: what it should have replaced is out of date.
+    /// header empties the place that its RBSP's first byte names: what it should have replaced is out of date. A refused header empties none,
+    /// and leaves `work` as it was.
     pub fn take_unit(&mut self, unit: &[u8], work: &mut [u8]) -> Result<Taken, Refusal> {
         let (to, room) = (work.as_mut_ptr(), work.len());
         // SAFETY: both pointers are those of slices, with their own lengths, and the slices don't overlap.
@@ -65,44 +84,48 @@ impl Table {
         }
     }
 
-    /// The set held for a kind and an id: that of the last unit that named them, if it was accepted.
-    pub fn lookup(&self, kind: Kind, id: u8) -> Result<Aps, Refusal> {
+    /// The set held for a kind and an id, and its unit's header: those of the last unit that named them, if it was accepted.
+    pub fn lookup(&self, kind: Kind, id: u8) -> Result<Held<Aps>, Refusal> {
         match kind {
-            Kind::Alf => self.alf(id).map(Aps::Alf),
-            Kind::Lmcs => self.lmcs(id).map(Aps::Lmcs),
-            Kind::Scaling => self.scaling(id).map(Aps::Scaling),
+            Kind::Alf => self.alf(id).map(|held| held.map(Aps::Alf)),
+            Kind::Lmcs => self.lmcs(id).map(|held| held.map(Aps::Lmcs)),
+            Kind::Scaling => self.scaling(id).map(|held| held.map(Aps::Scaling)),
         }
     }
 
-    /// The ALF set held for an id.
-    pub fn alf(&self, id: u8) -> Result<Alf, Refusal> {
-        let mut set = Alf::default();
+    /// The ALF set held for an id, and its unit's header.
+    pub fn alf(&self, id: u8) -> Result<Held<Alf>, Refusal> {
+        let (mut set, mut header) = (Alf::default(), UnitHeader::default());
         // SAFETY: the box is a whole table; the library is proved to write only 0 or 1 into flags, which are bools.
-        answer(unsafe { raw::aps_alf_lookup(&self.0, id, &mut set) }).map(|()| set)
+        answer(unsafe { raw::aps_alf_lookup(&self.0, id, &mut set, &mut header) })?;
+        Ok(Held { header, set })
     }
 
-    /// The LMCS set held for an id.
-    pub fn lmcs(&self, id: u8) -> Result<Lmcs, Refusal> {
-        let mut set = Lmcs::default();
+    /// The LMCS set held for an id, and its unit's header.
+    pub fn lmcs(&self, id: u8) -> Result<Held<Lmcs>, Refusal> {
+        let (mut set, mut header) = (Lmcs::default(), UnitHeader::default());
         // SAFETY: as for an ALF set.
-        answer(unsafe { raw::aps_lmcs_lookup(&self.0, id, &mut set) }).map(|()| set)
+        answer(unsafe { raw::aps_lmcs_lookup(&self.0, id, &mut set, &mut header) })?;
+        Ok(Held { header, set })
     }
 
-    /// The scaling set held for an id.
-    pub fn scaling(&self, id: u8) -> Result<Scaling, Refusal> {
-        let mut set = Scaling::default();
+    /// The scaling set held for an id, and its unit's header.
+    pub fn scaling(&self, id: u8) -> Result<Held<Scaling>, Refusal> {
+        let (mut set, mut header) = (Scaling::default(), UnitHeader::default());
         // SAFETY: as for an ALF set.
-        answer(unsafe { raw::aps_scaling_lookup(&self.0, id, &mut set) }).map(|()| set)
+        answer(unsafe { raw::aps_scaling_lookup(&self.0, id, &mut set, &mut header) })?;
+        Ok(Held { header, set })
     }
 
-    /// The kind, the id and the flags of the set held for a kind and an id.
-    pub fn head(&self, kind: Kind, id: u8) -> Result<Head, Refusal> {
-        let mut head = Head::default();
+    /// The kind, the id and the flags of the set held for a kind and an id, and its unit's header.
+    pub fn head(&self, kind: Kind, id: u8) -> Result<Held<Head>, Refusal> {
+        let (mut set, mut header) = (Head::default(), UnitHeader::default());
         // SAFETY: as for an ALF set; the kind is proved to be 0 to 2.
-        answer(unsafe { raw::aps_head_lookup(&self.0, kind.number(), id, &mut head) }).map(|()| head)
+        answer(unsafe { raw::aps_head_lookup(&self.0, kind.number(), id, &mut set, &mut header) })?;
+        Ok(Held { header, set })
     }
 
-    /// Writes the list at a cut at the start of `out` and gives the length: each set held as a unit of type 17, by kind, then id.
+    /// Writes the list at a cut at the start of `out` and gives the length: each set held as a unit of its own header, by kind, then id.
     pub fn write_list(&self, out: &mut [u8]) -> Result<usize, Refusal> {
         let mut len = 0;
         // SAFETY: the box is a whole table, and the pointer is a slice's, with its own length.
@@ -125,7 +148,7 @@ impl Default for Table {
     }
 }
 
-/// The head of each set held.
+/// The header and the head of each set held.
 impl fmt::Debug for Table {
     fn fmt(&self, f: &mut fmt::Formatter<'_>) -> fmt::Result {
         let places = Kind::ALL

@@ -1,16 +1,19 @@
-//! Sets of each kind, small, typical and full, read and written.
+//! Sets of each kind, small, typical and full, read and written; beside them their units.
 
 use std::hint::black_box;
 
 use super::{record, Row};
 use crate::expected::{self, number};
 use crate::h266::aps::{parse_aps_rbsp, write_aps, VvcAps};
+use crate::headers::{self, Header};
+use crate::library::sets::unit_header;
+use crate::nal;
 use crate::random::Random;
 use crate::sets::flip;
 use crate::sets::make::{Maker, Style};
 use crate::speed::sets::{calls, inputs};
 use crate::tally::Tally;
-use kendwyra::{sets, Refusal};
+use kendwyra::{sets, Aps, Refusal};
 
 const CASES: usize = 20_000;
 
@@ -46,6 +49,9 @@ fn read(name: &str, rbsp: &[u8], input: usize) -> Row {
             _ => (),
         }
         same_read(&mut t, &bytes);
+        let unit_type = headers::aps_type(&mut random);
+        let header = headers::any(&mut random, unit_type);
+        same_unit_read(&mut t, &[&header[..], &nal::rbsp_to_ebsp(&bytes)].concat());
     }
     Row::new(
         t,
@@ -64,6 +70,17 @@ fn same_read(t: &mut Tally, bytes: &[u8]) {
     record::same(t, asked, ours.map(|(set, _)| set), rust.as_ref().map_err(|&e| e));
     if end != expected {
         t.same(|| format!("end of {}", asked()), end, expected);
+    }
+}
+
+/// Beside that the set of a unit, and every byte of the work buffer.
+fn same_unit_read(t: &mut Tally, unit: &[u8]) {
+    let (mut work, mut after) = (vec![0; unit.len()], vec![0; unit.len()]);
+    let ours = Aps::read_unit(unit, &mut work).map_err(Refusal::number);
+    let rust = expected::sets::read_unit(unit, &mut after, true);
+    let rust = rust.map(|(_, set)| (record::set(&set), expected::sets::end(&set)));
+    if (&ours, &work) != (&rust, &after) {
+        t.same(|| format!("read of unit {unit:02X?}"), (ours, work), (rust, after));
     }
 }
 
@@ -87,6 +104,12 @@ fn write(name: &str, rbsp: &[u8], input: usize) -> Row {
             due + random.below(3)
         };
         same_write(&mut t, &record, rust, &filler[..room]);
+        let unit_type = headers::aps_type(&mut random);
+        let mut header = headers::good(&mut random, unit_type);
+        if case % 8 == 7 {
+            header[random.below(3)] = random.next() as u8;
+        }
+        same_unit_written(&mut t, &record, header, &filler[..room + 2]);
     }
     let record = parse_aps_rbsp(rbsp).expect("a set that the Rust wrote");
     let (set, mut out) = (record::set(&record), vec![0; 4_000]);
@@ -101,10 +124,25 @@ fn write(name: &str, rbsp: &[u8], input: usize) -> Row {
 fn same_write(t: &mut Tally, record: &VvcAps, rust: Result<Vec<u8>, u32>, out: &[u8]) {
     let mut after = out.to_vec();
     let ours = sets::write(&record::set(record), &mut after).map_err(Refusal::number);
-    let expected = match rust.and_then(|bytes| expected::put(bytes, out)) {
+    let asked = || format!("write of {record:?} into {} bytes", out.len());
+    t.same(asked, (ours, after), put(rust, out));
+}
+
+/// Beside that the set's unit with a header.
+fn same_unit_written(t: &mut Tally, record: &VvcAps, header: Header, out: &[u8]) {
+    let mut after = out.to_vec();
+    let written = record::set(record).write_unit(unit_header(header), &mut after);
+    let ours = (written.map_err(Refusal::number), after);
+    let expected = put(expected::written::unit(record, header), out);
+    if ours != expected {
+        let asked = || format!("unit of header {header:?} of {record:?} into {} bytes", out.len());
+        t.same(asked, ours, expected);
+    }
+}
+
+fn put(rust: Result<Vec<u8>, u32>, out: &[u8]) -> (Result<usize, u32>, Vec<u8>) {
+    match rust.and_then(|bytes| expected::put(bytes, out)) {
         Ok((after, len)) => (Ok(len), after),
         Err(e) => (Err(e), out.to_vec()),
-    };
-    let asked = || format!("write of {record:?} into {} bytes", out.len());
-    t.same(asked, (ours, after), expected);
+    }
 }

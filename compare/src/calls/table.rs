@@ -5,7 +5,8 @@ use std::time::Instant;
 
 use super::{record, Row};
 use crate::expected::table::{names, Table as Model};
-use crate::h266::aps::{write_aps, write_aps_nal, VvcAps};
+use crate::h266::aps::{write_aps, VvcAps};
+use crate::headers::{self, Header};
 use crate::nal;
 use crate::random::Random;
 use crate::sets::make::{Maker, Style};
@@ -33,21 +34,25 @@ fn made(random: &mut Random, style: Style, (kind, id): (u8, u8)) -> VvcAps {
     set
 }
 
-/// A unit of type 17 after a start code, some with extension flag 1.
-fn unit(set: &VvcAps, extension: bool) -> Vec<u8> {
-    if !extension {
-        let unit = write_aps_nal(set, 17).expect("a set in range is written");
-        return [vec![0, 0, 0, 1], unit].concat();
+/// A unit with a header that is taken, after a start code; some with extension flag 1.
+fn unit(random: &mut Random, set: &VvcAps, extension: bool) -> Vec<u8> {
+    let mut rbsp = write_aps(set).expect("a set in range is written");
+    if extension {
+        rbsp = extended(&rbsp);
     }
-    let rbsp = extended(&write_aps(set).expect("a set in range is written"));
-    [&[0, 0, 0, 1, 0x00, 0x89][..], &nal::rbsp_to_ebsp(&rbsp)].concat()
+    let unit_type = headers::aps_type(random);
+    let header = headers::bytes(headers::good(random, unit_type));
+    [&[0, 0, 0, 1][..], &header, &nal::rbsp_to_ebsp(&rbsp)].concat()
 }
 
 /// A set for each of the 20 places; the one at `extension` has that flag.
 fn filling(random: &mut Random, style: Style, extension: Option<usize>) -> Vec<u8> {
     let units = names().into_iter().enumerate();
     units
-        .flat_map(|(i, name)| unit(&made(random, style, name), extension == Some(i)))
+        .flat_map(|(i, name)| {
+            let set = made(random, style, name);
+            unit(random, &set, extension == Some(i))
+        })
         .collect()
 }
 
@@ -83,9 +88,9 @@ impl Both {
         }
     }
 
-    fn places(&self) -> (Vec<Result<Aps, u32>>, Vec<Result<Aps, u32>>) {
-        let ours = |name| looked_up(&self.ours, name).map_err(Refusal::number);
-        let model = |(kind, id)| self.model.held(kind, id).map(record::set);
+    fn places(&self) -> (Vec<Held>, Vec<Held>) {
+        let ours = |name| looked_up(&self.ours, name);
+        let model = |name| modelled(&self.model, name);
         (
             names().into_iter().map(ours).collect(),
             names().into_iter().map(model).collect(),
@@ -104,8 +109,20 @@ impl Both {
     }
 }
 
-fn looked_up(table: &Table, (kind, id): (u8, u8)) -> Result<Aps, Refusal> {
-    table.lookup(Kind::ALL[usize::from(kind)], id)
+/// The header and the fields of a place, or the refusal's number.
+type Held = Result<(Header, Aps), u32>;
+
+fn looked_up(table: &Table, (kind, id): (u8, u8)) -> Held {
+    let held = table
+        .lookup(Kind::ALL[usize::from(kind)], id)
+        .map_err(Refusal::number)?;
+    let h = held.header;
+    Ok(([h.nal_unit_type, h.nuh_layer_id, h.nuh_temporal_id_plus1], held.set))
+}
+
+fn modelled(model: &Model, (kind, id): (u8, u8)) -> Held {
+    let entry = model.held(kind, id)?;
+    Ok((entry.header, record::set(&entry.set)))
 }
 
 fn taken(table: &mut Table, stream: &[u8], work: &mut [u8]) -> Result<[u64; 3], u32> {
@@ -126,7 +143,7 @@ fn sum(counts: Result<[u64; 3], u32>) -> u64 {
     })
 }
 
-/// Every tenth stream has a bit flipped or is cut, and every tenth has too short a work buffer.
+/// Every tenth stream has a bit flipped or is cut, every tenth has a bit of a header flipped, and every tenth has too short a work buffer.
 fn typical_sets() -> Row {
     let mut t = Tally::new("stream of 20 typical sets taken");
     let mut random = Random::new(71);
@@ -146,6 +163,7 @@ fn damage(random: &mut Random, stream: &mut Vec<u8>, case: usize) {
     match case % 20 {
         9 => flip(stream, random.below(len * 8)),
         19 => stream.truncate(1 + random.below(len - 1)),
+        2 | 12 => flip(stream, 32 + random.below(16)),
         _ => (),
     }
 }
@@ -179,22 +197,22 @@ fn lookup(kind: u8, name: &str) -> Row {
     let mut place = (kind, 0);
     for case in 0..CASES {
         place = (kind, random.below(if kind == 1 { 4 } else { 8 }) as u8);
-        let stream = unit(&made(&mut random, Style::Full, place), false);
+        let set = made(&mut random, Style::Full, place);
+        let stream = unit(&mut random, &set, false);
         let (mut work, mut again) = (vec![0; stream.len()], vec![0; stream.len()]);
         let accepted = [
             both.model.take_stream(&stream, &mut work),
             taken(&mut both.ours, &stream, &mut again),
         ];
         assert!(accepted == [Ok([1, 0, 0]); 2], "a full set is accepted");
-        let (kind, id) = match case % 10 {
+        let name = match case % 10 {
             9 => (random.below(3) as u8, random.below(10) as u8),
             _ => place,
         };
-        record::same(
-            &mut t,
-            || format!("lookup of kind {kind}, id {id}"),
-            looked_up(&both.ours, (kind, id)),
-            both.model.held(kind, id),
+        t.same(
+            || format!("lookup of kind and id {name:?}"),
+            looked_up(&both.ours, name),
+            modelled(&both.model, name),
         );
     }
     let (Both { ours, model, .. }, (kind, id)) = (both, place);
@@ -207,7 +225,9 @@ fn lookup(kind: u8, name: &str) -> Row {
         },
         &mut || {
             calls(&[0; 400], |_| {
-                black_box(&looked_up(black_box(&ours), (kind, id))).is_err().into()
+                black_box(&black_box(&ours).lookup(Kind::ALL[usize::from(kind)], id))
+                    .is_err()
+                    .into()
             })
         },
     )

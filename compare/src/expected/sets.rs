@@ -3,6 +3,7 @@
 use super::{document, is_short, number, short};
 use crate::h266::aps::{self, VvcAlfCcFilters, VvcAlfData, VvcAps, VvcApsPayload, VvcLmcsData, VvcScalingListData};
 use crate::h266::{self, NAL_TYPE_PREFIX_APS, NAL_TYPE_SUFFIX_APS};
+use crate::headers::Header;
 use crate::library::sets::{Answer, Numbers};
 use crate::nal;
 
@@ -126,30 +127,35 @@ pub fn is_aps(unit_type: u8) -> bool {
     unit_type == NAL_TYPE_PREFIX_APS || unit_type == NAL_TYPE_SUFFIX_APS
 }
 
-/// The set of a unit. The refusals 4 and 5 and the work buffer are not the Rust's, which makes its own buffer. Without
-/// `looking` missing bits are not looked for: the Rust alone.
-pub fn read_unit(unit: &[u8], work: &mut [u8], looking: bool) -> Result<VvcAps, u32> {
+/// The header of an APS unit. 4; 1; 2 for another type, then for what the Rust does not judge.
+pub fn unit_header(unit: &[u8]) -> Result<Header, u32> {
     document::escape(unit.len())?;
-    let header = h266::parse_nal_header(unit).map_err(number)?;
-    let rust = || aps::parse_aps(unit).map_err(number);
-    if !is_aps(header.nal_unit_type) {
-        return rust();
+    let h = h266::parse_nal_header(unit).map_err(number)?;
+    if !is_aps(h.nal_unit_type) {
+        return Err(aps::parse_aps(unit).map_err(number).expect_err("no APS unit"));
     }
+    let zero_bits = [h.forbidden_zero_bit, h.nuh_reserved_zero_bit];
+    document::header(zero_bits, h.nuh_layer_id, h.nuh_temporal_id_plus1)?;
+    Ok([h.nal_unit_type, h.nuh_layer_id, h.nuh_temporal_id_plus1])
+}
+
+/// The header and the set of a unit. The refusals 4 and 5, that of a header by its other fields than the type, and the work buffer are not
+/// the Rust's, which makes its own buffer. Without `looking` missing bits are not looked for: the Rust alone.
+pub fn read_unit(unit: &[u8], work: &mut [u8], looking: bool) -> Result<(Header, VvcAps), u32> {
+    let header = unit_header(unit)?;
     document::room(unit.len() - 2, work.len())?;
     let rbsp = nal::ebsp_to_rbsp(&unit[2..]);
     work[..rbsp.len()].copy_from_slice(&rbsp);
-    if looking {
-        whole(&rbsp, rust())
-    } else {
-        rust()
-    }
+    let rust = aps::parse_aps(unit).map_err(number);
+    let set = if looking { whole(&rbsp, rust) } else { rust };
+    set.map(|set| (header, set))
 }
 
 /// The answer, and the work buffer after it.
 pub fn parse(unit: &[u8], work: &[u8]) -> (Answer, Vec<u8>) {
     let mut after = work.to_vec();
     let read = read_unit(unit, &mut after, true);
-    (answer(read), after)
+    (answer(read.map(|(_, set)| set)), after)
 }
 
 pub fn nal_header(unit: &[u8]) -> Result<[u8; 5], u32> {

@@ -1,10 +1,11 @@
-//! The table: 20 places, each with the set last accepted for it as the Rust's `parse_aps` reads it, unless a damaged unit has named the
-//! place since, and their list by `write_aps_nal`.
+//! The table: 20 places, each with the set last accepted for it as the Rust's `parse_aps` reads it and its unit's header, unless a damaged
+//! unit has named the place since, and their list by `write_aps_nal` with these headers.
 
-use super::{document, number, sets};
-use crate::h266::aps::{self, VvcAps};
+use super::{document, sets, written};
+use crate::h266::aps::VvcAps;
 use crate::h266::{self, NAL_TYPE_PREFIX_APS};
-use crate::library::sets::Numbers;
+use crate::headers::{self, Header};
+use crate::library::sets::Held;
 use crate::library::table::Taken;
 use crate::nal;
 
@@ -57,14 +58,23 @@ fn damaged(unit: &[u8], refusal: u32) -> Option<(u8, u8)> {
     (refusal == 1 || refusal == 2).then_some((first / 32, first % 32))
 }
 
+/// A set in force, and its unit's header.
+#[derive(Clone, PartialEq)]
+pub struct Entry {
+    pub set: VvcAps,
+    pub header: Header,
+}
+
 #[derive(Clone, PartialEq)]
 pub struct Table {
     /// In the order of their names.
-    places: [Option<VvcAps>; 20],
+    places: [Option<Entry>; 20],
     /// Whether missing bits are looked for, which takes time that is not the Rust's.
     pub looking: bool,
     /// The places that held a set when a damaged unit emptied them, until a caller takes this list.
     pub emptied: Vec<(u8, u8)>,
+    /// The places that held a set when a unit that would have emptied them was refused for its header, until a caller takes this list.
+    pub kept: Vec<(u8, u8)>,
 }
 
 impl Table {
@@ -73,19 +83,25 @@ impl Table {
             places: [const { None }; 20],
             looking: true,
             emptied: Vec::new(),
+            kept: Vec::new(),
         }
     }
 
-    /// 4; 1; passed over; 5; then as `parse_aps`, but 1 where a bit is missing. A damaged unit is refused too, and empties a place.
+    /// 4; 1; passed over; 2 for the header; 5; then as `parse_aps`, but 1 where a bit is missing. A damaged unit is refused too, and empties a
+    /// place; one that is refused for its header empties none, whatever follows that.
     pub fn take_unit(&mut self, unit: &[u8], work: &mut [u8]) -> Result<Taken, u32> {
         document::escape(unit.len())?;
         if is_passed_over(unit) {
             return Ok(Taken::PassedOver);
         }
+        if let Err(refusal) = sets::unit_header(unit) {
+            self.keep(unit, work.len());
+            return Err(refusal);
+        }
         match sets::read_unit(unit, work, self.looking) {
-            Ok(set) => {
+            Ok((header, set)) => {
                 let place = place(set.aps_params_type, set.aps_adaptation_parameter_set_id);
-                self.places[place.expect("a set that was read has a place")] = Some(set);
+                self.places[place.expect("a set that was read has a place")] = Some(Entry { set, header });
                 Ok(Taken::Accepted)
             }
             Err(refusal) => {
@@ -105,6 +121,16 @@ impl Table {
         }
     }
 
+    /// Notes the place that the unit would have emptied with a header that is taken.
+    fn keep(&mut self, unit: &[u8], room: usize) {
+        let Some(body) = unit.get(2..) else { return };
+        let good = [&headers::bytes([NAL_TYPE_PREFIX_APS, 0, 1])[..], body].concat();
+        let read = sets::read_unit(&good, &mut vec![0; room], self.looking);
+        let named = read.err().and_then(|refusal| damaged(&good, refusal));
+        self.kept
+            .extend(named.filter(|&(kind, id)| self.held(kind, id).is_ok()));
+    }
+
     /// How many units were accepted, refused and passed over. 4; 2; 5.
     pub fn take_stream(&mut self, stream: &[u8], work: &mut [u8]) -> Result<[u64; 3], u32> {
         document::escape(stream.len())?;
@@ -122,19 +148,23 @@ impl Table {
     }
 
     /// 2; 6.
-    pub fn lookup(&self, kind: u8, id: u8) -> Result<Numbers, u32> {
-        self.held(kind, id).map(sets::numbers)
+    pub fn lookup(&self, kind: u8, id: u8) -> Result<Held, u32> {
+        let Entry { set, header } = self.held(kind, id)?;
+        Ok(Held {
+            set: sets::numbers(set),
+            header: *header,
+        })
     }
 
-    /// The record that a lookup shows.
-    pub fn held(&self, kind: u8, id: u8) -> Result<&VvcAps, u32> {
+    /// The record and the header that a lookup shows.
+    pub fn held(&self, kind: u8, id: u8) -> Result<&Entry, u32> {
         let place = place(kind, id).ok_or(2u32)?;
         self.places[place].as_ref().ok_or(6)
     }
 
     /// The list at a cut. 3; 2.
     pub fn list(&self) -> Result<Vec<u8>, u32> {
-        let unit = |set| aps::write_aps_nal(set, NAL_TYPE_PREFIX_APS).map_err(number);
+        let unit = |Entry { set, header }: &Entry| written::unit(set, *header);
         let units: Vec<Result<Vec<u8>, u32>> = self.places.iter().flatten().map(unit).collect();
         for refusal in [3, 2] {
             if units.contains(&Err(refusal)) {

@@ -1,10 +1,11 @@
 //! Sets that are handed over as numbers: what the Rust writes for the same record.
 
+use super::sets::is_aps;
 use super::{document, number};
 use crate::h266::aps::{self, VvcAlfCcFilters, VvcAlfChroma, VvcAlfData, VvcAlfLuma, VvcAps, VvcApsPayload};
 use crate::h266::aps::{VvcLmcsData, VvcScalingListData};
+use crate::headers::{self, Header};
 use crate::sets::make::diagonal_scan;
-use crate::BitstreamError;
 
 /// A place in the numbers, from which the fields are taken in their order.
 struct Fields<'a>(&'a [i64]);
@@ -179,11 +180,11 @@ fn overflows(set: &VvcAps) -> bool {
 
 type Answer = (Result<usize, u32>, Vec<u8>);
 
-fn put(out: &[u8], write: impl Fn(&VvcAps) -> Result<Vec<u8>, BitstreamError>, set: &VvcAps) -> Answer {
+fn put(out: &[u8], write: impl Fn(&VvcAps) -> Result<Vec<u8>, u32>, set: &VvcAps) -> Answer {
     let written = if overflows(set) && !set.aps_extension_flag {
         Err(2)
     } else {
-        write(set).map_err(number)
+        write(set)
     };
     let fits = written.and_then(|bytes| document::room(bytes.len(), out.len()).map(|()| bytes));
     match fits {
@@ -194,9 +195,21 @@ fn put(out: &[u8], write: impl Fn(&VvcAps) -> Result<Vec<u8>, BitstreamError>, s
 
 /// The answer, and the output after it.
 pub fn write(numbers: &[i64], out: &[u8]) -> Answer {
-    put(out, aps::write_aps, &record(numbers))
+    put(out, |set| aps::write_aps(set).map_err(number), &record(numbers))
 }
 
-pub fn write_nal(numbers: &[i64], unit_type: u8, out: &[u8]) -> Answer {
-    put(out, |set| aps::write_aps_nal(set, unit_type), &record(numbers))
+pub fn write_nal(numbers: &[i64], header: Header, out: &[u8]) -> Answer {
+    put(out, |set| unit(set, header), &record(numbers))
+}
+
+/// The Rust's unit with this header in place of its own, which has layer 0 and temporal id 0. 2 for another type than 17 and 18, then for a
+/// layer or a temporal id that H.266 has not, before the Rust's refusals of the set.
+pub fn unit(set: &VvcAps, header: Header) -> Result<Vec<u8>, u32> {
+    let [unit_type, layer, temporal_id_plus1] = header;
+    if is_aps(unit_type) {
+        document::header([0, 0], layer, temporal_id_plus1)?;
+    }
+    let mut unit = aps::write_aps_nal(set, unit_type).map_err(number)?;
+    unit[..2].copy_from_slice(&headers::bytes(header));
+    Ok(unit)
 }

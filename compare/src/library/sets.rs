@@ -4,6 +4,8 @@ use std::hint::black_box;
 
 use super::structs::Struct;
 use super::{ARRAY_CHANGED, MARK};
+use crate::headers::Header;
+use kendwyra::sets::UnitHeader;
 use kendwyra::{raw, Alf, Head, Lmcs, Scaling, TABLE_BYTES};
 
 /// A set as its numbers, in the order of `structs`; shown as those that are not 0, after the index of the first in a row.
@@ -35,6 +37,22 @@ impl Numbers {
     }
 }
 
+/// What a lookup answers: a set's numbers, or those of its head alone, and its unit's header.
+#[derive(Debug, PartialEq)]
+pub struct Held {
+    pub set: Numbers,
+    pub header: Header,
+}
+
+impl Held {
+    pub fn head(&self) -> Held {
+        Held {
+            set: self.set.head(),
+            header: self.header,
+        }
+    }
+}
+
 /// The numbers of a set and the bit where reading ended, or the refusal's number.
 pub type Answer = Result<(Numbers, usize), u32>;
 
@@ -48,10 +66,14 @@ pub fn kind_of(first: Option<&u8>) -> usize {
     }
 }
 
-/// What is lent, marked before each call: a struct of each kind, a head with bytes after it, and the end.
+/// A unit's header with bytes after it, all marks.
+const HEADER: [u8; 8] = MARK.to_be_bytes();
+
+/// What is lent, marked before each call: a struct of each kind, a head and a header with bytes after them, and the end.
 pub struct Lent {
     sets: [Struct; 3],
     head: [u8; HEAD + 4],
+    header: [u8; 8],
     end: u64,
 }
 
@@ -61,9 +83,11 @@ impl Lent {
         let sets = [0, 1, 2].map(Struct::marked);
         let sizes = [size_of::<Alf>(), size_of::<Lmcs>(), size_of::<Scaling>()];
         assert!(sets.each_ref().map(Struct::size) == sizes, "{sizes:?}");
+        assert!(size_of::<UnitHeader>() == size_of::<Header>());
         Lent {
             sets,
             head: [MARK as u8; HEAD + 4],
+            header: HEADER,
             end: MARK,
         }
     }
@@ -126,17 +150,33 @@ impl Lent {
         self.answer(kind, code)
     }
 
+    /// A lookup's answer; after a refusal no byte of the header has changed either.
+    fn held(&mut self, code: u32, set: Answer) -> Result<Held, u32> {
+        let lent = std::mem::replace(&mut self.header, HEADER);
+        let (header, after) = lent.split_first_chunk().expect("a header and the bytes after it");
+        match set {
+            Err(code) if lent == HEADER => Err(code),
+            Ok((set, _)) if *after == HEADER[3..] => Ok(Held { set, header: *header }),
+            _ => Err(ARRAY_CHANGED + code),
+        }
+    }
+
+    fn lent_header(&mut self) -> *mut UnitHeader {
+        black_box(self.header.as_mut_ptr()).cast()
+    }
+
     /// The set of a kind that is held for an id.
-    pub(super) fn lookup(&mut self, kind: usize, table: &[u8; TABLE_BYTES], id: u8) -> Result<Numbers, u32> {
-        let set = self.sets[kind].pointer::<u8>();
+    pub(super) fn lookup(&mut self, kind: usize, table: &[u8; TABLE_BYTES], id: u8) -> Result<Held, u32> {
+        let (set, header) = (self.sets[kind].pointer::<u8>(), self.lent_header());
         let code = unsafe {
             match kind {
-                0 => raw::aps_alf_lookup(table, id, set.cast()),
-                1 => raw::aps_lmcs_lookup(table, id, set.cast()),
-                _ => raw::aps_scaling_lookup(table, id, set.cast()),
+                0 => raw::aps_alf_lookup(table, id, set.cast(), header),
+                1 => raw::aps_lmcs_lookup(table, id, set.cast(), header),
+                _ => raw::aps_scaling_lookup(table, id, set.cast(), header),
             }
         };
-        self.answer(kind, code).map(|(set, _)| set)
+        let set = self.answer(kind, code);
+        self.held(code, set)
     }
 
     fn lent_head(&mut self) -> *mut Head {
@@ -158,10 +198,11 @@ impl Lent {
     }
 
     /// The head of the set held for a kind and an id.
-    pub(super) fn head_lookup(&mut self, table: &[u8; TABLE_BYTES], kind: u8, id: u8) -> Result<Numbers, u32> {
-        let head = self.lent_head();
-        let code = unsafe { raw::aps_head_lookup(table, kind, id, head) };
-        self.head_answer(code).map(|(head, _)| head)
+    pub(super) fn head_lookup(&mut self, table: &[u8; TABLE_BYTES], kind: u8, id: u8) -> Result<Held, u32> {
+        let (head, header) = (self.lent_head(), self.lent_header());
+        let code = unsafe { raw::aps_head_lookup(table, kind, id, head, header) };
+        let head = self.head_answer(code);
+        self.held(code, head)
     }
 
     /// The bit where reading an RBSP's set ended, by the record of a kind.
@@ -220,14 +261,23 @@ pub fn write(numbers: &[i64], out: &mut [u8]) -> Result<usize, u32> {
     })
 }
 
-/// A set as a unit.
-pub fn write_nal(numbers: &[i64], unit_type: u8, out: &mut [u8]) -> Result<usize, u32> {
-    let (to, room) = (out.as_mut_ptr(), out.len());
+/// A header as the library's calls take it.
+pub fn unit_header([nal_unit_type, nuh_layer_id, nuh_temporal_id_plus1]: Header) -> UnitHeader {
+    UnitHeader {
+        nal_unit_type,
+        nuh_layer_id,
+        nuh_temporal_id_plus1,
+    }
+}
+
+/// A set as a unit with a header.
+pub fn write_nal(numbers: &[i64], header: Header, out: &mut [u8]) -> Result<usize, u32> {
+    let (header, to, room) = (unit_header(header), out.as_mut_ptr(), out.len());
     written(numbers, |set, len| unsafe {
         match numbers[0] {
-            0 => raw::aps_alf_write_nal(set.cast(), unit_type, to, room, len),
-            1 => raw::aps_lmcs_write_nal(set.cast(), unit_type, to, room, len),
-            _ => raw::aps_scaling_write_nal(set.cast(), unit_type, to, room, len),
+            0 => raw::aps_alf_write_nal(set.cast(), header, to, room, len),
+            1 => raw::aps_lmcs_write_nal(set.cast(), header, to, room, len),
+            _ => raw::aps_scaling_write_nal(set.cast(), header, to, room, len),
         }
     })
 }

@@ -2,7 +2,7 @@
 
 use std::hint::black_box;
 
-use super::sets::{front, sized, Lent, Numbers};
+use super::sets::{front, sized, Held, Lent};
 use super::{ARRAY_CHANGED, MARK};
 use kendwyra::raw::{self, PASSED_OVER};
 use kendwyra::TABLE_BYTES;
@@ -17,7 +17,7 @@ pub enum Taken {
 /// A call that changed the table where it may not, or wrote past it: a number that is expected nowhere.
 const TABLE_CHANGED: u32 = 2000;
 
-/// A head that is not that of the set: a number that is expected nowhere.
+/// A head or a header that is not that of the set: a number that is expected nowhere.
 const HEAD_DIFFERS: u32 = 3000;
 
 /// The table's bytes, and after them some that no call may change.
@@ -84,15 +84,15 @@ impl Table {
         }
     }
 
-    /// The set held for a kind and an id, by the call of its kind. The head that is looked up must be the set's, or get the same refusal;
-    /// a kind above 2 has only that.
-    pub fn lookup(&self, lent: &mut Lent, kind: u8, id: u8) -> Result<Numbers, u32> {
+    /// The set held for a kind and an id, by the call of its kind, and its unit's header. The head that is looked up must be the set's, with
+    /// the same header, or get the same refusal; a kind above 2 has only that.
+    pub fn lookup(&self, lent: &mut Lent, kind: u8, id: u8) -> Result<Held, u32> {
         let head = lent.head_lookup(self.bytes(), kind, id);
         if kind > 2 {
             return head;
         }
         let set = lent.lookup(kind.into(), self.bytes(), id);
-        if set.as_ref().map(Numbers::head) != head.as_ref().map(Numbers::head) {
+        if set.as_ref().map(Held::head) != head.as_ref().map(Held::head) {
             return Err(HEAD_DIFFERS + head.err().unwrap_or(0));
         }
         set

@@ -58,7 +58,7 @@ impl Change {
         let [rbsp, unit] = match set {
             Ok(set) => [
                 expected::written::write(&set, &before),
-                expected::written::write_nal(&set, 17, &before),
+                expected::written::write_nal(&set, [17, 0, 1], &before),
             ],
             Err(e) => [(Err(e), Vec::new()), (Err(e), Vec::new())],
         }

@@ -7,9 +7,11 @@ use super::sets::{calls, inputs, ParseRbsp};
 use super::{least, Run};
 use crate::expected::table::names;
 use crate::h266::aps;
+use crate::library::sets::unit_header;
 use crate::nal;
 use crate::random::Random;
 use crate::sets::make::{Maker, Style};
+use kendwyra::sets::UnitHeader;
 use kendwyra::{raw, Alf, Head, Lmcs, Scaling, TABLE_BYTES};
 
 /// One row, in nanoseconds for a call.
@@ -208,7 +210,7 @@ fn cuts(table: &Bytes, rbsps: &[Vec<u8>], to: *mut u8, room: usize) -> Vec<Row> 
     ]
 }
 
-type Lookup<T> = unsafe extern "C" fn(&Bytes, u8, *mut T) -> u32;
+type Lookup<T> = unsafe extern "C" fn(&Bytes, u8, *mut T, *mut UnitHeader) -> u32;
 
 /// A set looked up, against its RBSP read; both fill a struct.
 fn lookup(table: &Bytes, name: &str, (kind, id): (u8, u8), rbsp: &[u8]) -> Row {
@@ -242,10 +244,15 @@ fn lookup_of<T: Default + PartialEq>(
     parse_rbsp: ParseRbsp<T>,
 ) -> [f64; 2] {
     let (mut looked_up, mut parsed) = (T::default(), T::default());
+    let mut header = unit_header([0; 3]);
     let times = least(
         name,
         [
-            &mut || calls(rbsp, |_| unsafe { lookup(black_box(table), id, &mut looked_up).into() }),
+            &mut || {
+                calls(rbsp, |_| unsafe {
+                    lookup(black_box(table), id, &mut looked_up, &mut header).into()
+                })
+            },
             &mut || {
                 calls(rbsp, |b| unsafe {
                     parse_rbsp(b.as_ptr(), b.len(), &mut parsed, &mut 0).into()
@@ -254,6 +261,7 @@ fn lookup_of<T: Default + PartialEq>(
         ],
     );
     assert!(looked_up == parsed, "{name}: the sets differ");
+    assert!(header == unit_header([17, 0, 1]), "{name}: the header differs");
     times
 }
 

@@ -2,6 +2,7 @@
 
 use crate::expected::table::names;
 use crate::h266::aps;
+use crate::headers;
 use crate::nal;
 use crate::random::Random;
 use crate::sets::make::{Maker, Style};
@@ -10,6 +11,8 @@ use crate::sets::{extended, flip};
 /// Makes what the calls of a sequence bring.
 pub struct Bytes {
     random: Random,
+    /// The last unit of a set.
+    last: Vec<u8>,
     /// All sets are of this kind.
     kind: Option<u8>,
     /// All ids are below this.
@@ -42,6 +45,7 @@ impl Bytes {
     pub fn new() -> Self {
         Bytes {
             random: Random::new(31),
+            last: Vec::new(),
             kind: None,
             ids: 8,
             extensions: true,
@@ -121,21 +125,17 @@ impl Bytes {
         };
     }
 
-    /// The two bytes of a header, of which only the type is judged.
-    fn header(&mut self, unit_type: usize) -> [u8; 2] {
-        let layer = [0, self.random.next() as u8][self.random.below(2)];
-        [layer, (unit_type << 3 | self.random.below(8)) as u8]
+    fn aps_header(&mut self) -> [u8; 2] {
+        let unit_type = headers::aps_type(&mut self.random);
+        headers::any(&mut self.random, unit_type)
     }
 
-    fn aps_type(&mut self) -> usize {
-        17 + self.random.below(2)
-    }
-
-    fn foreign_type(&mut self) -> usize {
-        match self.random.below(30) {
+    fn foreign_header(&mut self) -> [u8; 2] {
+        let unit_type = match self.random.below(30) as u8 {
             n @ 0..=16 => n,
             n => n + 2,
-        }
+        };
+        headers::any(&mut self.random, unit_type)
     }
 
     fn aps_unit(&mut self) -> Vec<u8> {
@@ -144,8 +144,14 @@ impl Bytes {
             0 => rbsp,
             _ => nal::rbsp_to_ebsp(&rbsp),
         };
-        let unit_type = self.aps_type();
-        [&self.header(unit_type)[..], &body].concat()
+        self.last = [&self.aps_header()[..], &body].concat();
+        self.last.clone()
+    }
+
+    /// The last unit of a set with another header.
+    fn again(&mut self) -> Vec<u8> {
+        let body = self.last.get(2..).unwrap_or_default().to_vec();
+        [&self.aps_header()[..], &body].concat()
     }
 
     fn foreign_unit(&mut self) -> Vec<u8> {
@@ -154,23 +160,17 @@ impl Bytes {
             1 => self.random.bytes(20),
             _ => self.random.escapable(12),
         };
-        let unit_type = self.foreign_type();
-        [&self.header(unit_type)[..], &nal::rbsp_to_ebsp(&body)].concat()
+        [&self.foreign_header()[..], &nal::rbsp_to_ebsp(&body)].concat()
     }
 
     pub fn unit(&mut self) -> Vec<u8> {
         match self.random.below(24) {
             0 => Vec::new(),
             1 => vec![[0, 1, 0x89, 0x91, 0xFF][self.random.below(5)]],
-            2 => {
-                let unit_type = self.aps_type();
-                self.header(unit_type).to_vec()
-            }
+            2 => self.aps_header().to_vec(),
             3..=5 => self.foreign_unit(),
-            6 => {
-                let unit_type = self.aps_type();
-                [&self.header(unit_type)[..], &self.random.escapable(10)].concat()
-            }
+            6 => [&self.aps_header()[..], &self.random.escapable(10)].concat(),
+            7 => self.again(),
             _ => self.aps_unit(),
         }
     }
@@ -277,8 +277,10 @@ impl Bytes {
             let random = &mut self.random;
             let mut set = Maker { random, style }.set(kind);
             set.aps_adaptation_parameter_set_id = id;
-            let unit = aps::write_aps_nal(&set, 17).expect("a set in range is written");
-            stream.extend([vec![0, 0, 0, 1], unit].concat());
+            let rbsp = aps::write_aps(&set).expect("a set in range is written");
+            let unit_type = headers::aps_type(&mut self.random);
+            let header = headers::bytes(headers::good(&mut self.random, unit_type));
+            stream.extend([&[0, 0, 0, 1][..], &header, &nal::rbsp_to_ebsp(&rbsp)].concat());
         }
         stream
     }

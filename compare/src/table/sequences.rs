@@ -10,7 +10,7 @@ use kendwyra::TABLE_BYTES;
 
 const SEQUENCES: u64 = 150_000;
 
-pub fn random_sequences() -> [Tally; 7] {
+pub fn random_sequences() -> [Tally; 8] {
     let mut sequences = Sequences::new();
     (0..SEQUENCES).for_each(|_| sequences.one());
     sequences.rows()
@@ -29,6 +29,7 @@ struct Sequences {
     units: Tally,
     streams: Tally,
     emptied: Tally,
+    kept: Tally,
     lookups: Tally,
     lists: Tally,
     read_again: Tally,
@@ -49,6 +50,7 @@ impl Sequences {
             units: Tally::new("sequences: units alone"),
             streams: Tally::new("sequences: streams"),
             emptied: Tally::new("sequences: places emptied"),
+            kept: Tally::new("sequences: places kept, the header refused"),
             lookups: Tally::new("sequences: lookups"),
             lists: Tally::new("sequences: lists at a cut"),
             read_again: Tally::new("sequences: lists read into a new table"),
@@ -56,11 +58,12 @@ impl Sequences {
         }
     }
 
-    fn rows(self) -> [Tally; 7] {
+    fn rows(self) -> [Tally; 8] {
         [
             self.units,
             self.streams,
             self.emptied,
+            self.kept,
             self.lookups,
             self.lists,
             self.read_again,
@@ -144,6 +147,7 @@ impl Sequences {
         for both in tables {
             both.unit(&mut self.units, self.number, unit, &work);
             both.emptied(&mut self.emptied, &mut self.lent, self.number);
+            both.kept(&mut self.kept, &mut self.lent, self.number);
         }
     }
 
@@ -153,6 +157,7 @@ impl Sequences {
         for both in tables {
             both.stream(&mut self.streams, self.number, stream, &work);
             both.emptied(&mut self.emptied, &mut self.lent, self.number);
+            both.kept(&mut self.kept, &mut self.lent, self.number);
         }
     }
 

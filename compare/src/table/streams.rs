@@ -8,13 +8,15 @@ use kendwyra::TABLE_BYTES;
 /// What stands in a work buffer before a call.
 const FILLER: [u8; 8] = [0xA5, 0x5A, 0xC3, 0x3C, 0xE1, 0x1E, 0x87, 0x78];
 
-/// Start codes, an escape, and the bytes of a small set's unit.
-const LETTERS: [u8; 5] = [0x00, 0x01, 0x03, 0x10, 0x89];
+/// The bytes of a small set's unit, an escape and start codes. In this order the unit 89 89 00 03, refused for its header, comes when the place
+/// that its RBSP names is filled, before one with a header that is taken empties it.
+const LETTERS: [u8; 5] = [0x89, 0x10, 0x03, 0x01, 0x00];
 
 /// One table takes them all. Work buffers just long enough, and one byte less.
-pub fn every_short_stream() -> [Tally; 2] {
+pub fn every_short_stream() -> [Tally; 3] {
     let mut t = Tally::new("streams: every one of up to 8 of five bytes");
     let mut emptied = Tally::new("streams: places emptied by them");
+    let mut kept = Tally::new("streams: places kept, the header refused");
     let mut lent = Lent::new();
     let mut both = Both::new(&[0; TABLE_BYTES]);
     for len in 0..=8 {
@@ -24,8 +26,9 @@ pub fn every_short_stream() -> [Tally; 2] {
             for room in [stream.len(), stream.len().saturating_sub(1)] {
                 both.stream(&mut t, 0, &stream, &FILLER[..room]);
                 both.emptied(&mut emptied, &mut lent, 0);
+                both.kept(&mut kept, &mut lent, 0);
             }
         }
     }
-    [t, emptied]
+    [t, emptied, kept]
 }

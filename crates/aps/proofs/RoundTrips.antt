@@ -16,7 +16,8 @@ use Rattle.bitstream.proofs.EscapeLaws.{unescape-of-escape, escape-most}
 use Rattle.aps.specs.Kinds.{most_bytes}
 use Rattle.aps.specs.ApsSyntax.{number_of, aps, inferred}
 use Rattle.aps.specs.Rbsp.{read_rbsp, parse_aps_rbsp, rbsp_bytes}
-use Rattle.aps.specs.Unit.{is_aps, rbsp_of, admitted, parse_aps}
+use Rattle.aps.specs.Unit.{rbsp_of, is_aps_header, unit_header, admitted, parse_aps}
+use Rattle.aps.specs.declared.unit_header.UnitHeader.{UnitHeader}
 use Rattle.aps.specs.Writing.{bytes_due, write_aps, unit_of, write_aps_nal}
 use Rattle.aps.specs.declared.aps.ApsKind.{ApsKind}
 use Rattle.aps.specs.declared.aps.VvcAps.{VvcAps}
@@ -24,6 +25,7 @@ use Rattle.aps.proofs.RbspSteps.{in-limits}
 use Rattle.aps.proofs.RbspLaws.{rbsp-sound, read-write, write_read, rbsp-some, rbsp-most, rbsp-last}
 use Rattle.aps.proofs.RbspWrites.{due-taken, taken-due}
 use Rattle.aps.proofs.UnitWrites.{put-value}
+use Rattle.aps.proofs.UnitSteps.{headed-bytes, admitted-by}
 
 -- the sets of each kind have at most 2931 bytes
 most-le : (k : ApsKind) → most_bytes (number_of k) ≤ 2931
@@ -72,9 +74,9 @@ module _ (s : List ℕ) (a : VvcAps) (q : ℕ) (e : parse_aps_rbsp s ≡ value a
       rw (due-taken a x (rbsp-sound s a q r).0, read-write s a q r x b)
 
   -- and as a unit as those with escapes put in
-  pub read-then-unit : (type : ℕ) (out : List ℕ) → is_aps type ≡ true → write_aps_nal a type out ≡ put_bytes out (unit_of type (take (q / 8) s))
+  pub read-then-unit : (h : UnitHeader) (out : List ℕ) → is_aps_header h ≡ true → write_aps_nal a h out ≡ put_bytes out (unit_of h (take (q / 8) s))
   unfolding write_aps_nal
-  read-then-unit type out t =
+  read-then-unit h out t =
       let r = read-limits s a q e in
       rw (t, due-taken a x (rbsp-sound s a q r).0, read-write s a q r x b)
 
@@ -117,50 +119,57 @@ module _ (a : VvcAps) (out after : List ℕ) (n : ℕ) where
 -- ---- a unit
 
 -- what a unit holds
-unit-rbsp : (type : ℕ) (l : List ℕ) → rbsp_of (unit_of type l) ≡ l
+unit-rbsp : (h : UnitHeader) (l : List ℕ) → rbsp_of (unit_of h l) ≡ l
 unfolding unit_of
-unit-rbsp type l = unescape-of-escape l
+unit-rbsp h l = unescape-of-escape l
 
--- a unit of an APS type that fits is judged as one
-unit-judged : (type : ℕ) (l : List ℕ) (room : ℕ) → is_aps type ≡ true → length (unit_of type l) ≤ 65536 → length (unit_of type l) - 2 ≤ room
-    → admitted (unit_of type l) room ≡ value tt 16
-unfolding admitted unit_of
-unit-judged type l room t h k =
-    let w : (type * 8 + 1) / 8 ≡ type = omega arith in
-    rw (le-ltb 65536 (suc (suc (length (escape l)))) h, le-ltb (suc (suc (length (escape l)))) 2 (omega arith), w, t, le-ltb room (suc (suc (length (escape l))) - 2) k)
+-- the header of an APS unit is read back
+pub unit-headed : (h : UnitHeader) (l : List ℕ) → is_aps_header h ≡ true → length (unit_of h l) ≤ 65536 → unit_header (unit_of h l) ≡ value h 16
+unfolding unit_header unit_of
+unit-headed h l a m = headed-bytes h (escape l) a m
 
--- and read as its RBSP
-pub unit-parsed : (type : ℕ) (l : List ℕ) (room : ℕ) → is_aps type ≡ true → length (unit_of type l) ≤ 65536 → length (unit_of type l) - 2 ≤ room
-    → parse_aps (unit_of type l) room ≡ read_rbsp l
+-- and it is read as its RBSP
+pub unit-parsed : (h : UnitHeader) (l : List ℕ) (room : ℕ) → is_aps_header h ≡ true → length (unit_of h l) ≤ 65536 → length (unit_of h l) - 2 ≤ room
+    → parse_aps (unit_of h l) room ≡ read_rbsp l
 unfolding parse_aps
-unit-parsed type l room t h k = rw (unit-judged type l room t h k, unit-rbsp type l)
+unit-parsed h l room a m k = rw (admitted-by (unit_of h l) room h (unit-headed h l a m), le-ltb room (length (unit_of h l) - 2) k, unit-rbsp h l)
 
 -- the unit of a set that is taken is not long
-unit-short : (a : VvcAps) (type : ℕ) → aps.ok a ≡ true → length (unit_of type (rbsp_bytes a)) ≤ 65536
+unit-short : (a : VvcAps) (h : UnitHeader) → aps.ok a ≡ true → length (unit_of h (rbsp_bytes a)) ≤ 65536
 unfolding unit_of
-unit-short a type o = omega (arith, escape-most (rbsp_bytes a), rbsp-most a o, most-le a.kind)
+unit-short a h o = omega (arith, escape-most (rbsp_bytes a), rbsp-most a o, most-le a.kind)
 
-module _ (a : VvcAps) (type : ℕ) (out after : List ℕ) (n : ℕ) where
-  -- `write_aps_nal`, then `parse_aps`: the set, with what is not sent at its inferred values
-  pub unit-then-read : write_aps_nal a type out ≡ value after n → (room : ℕ) → n - 2 ≤ room → parse_aps (take n after) room ≡ value (inferred a) (8 * length (rbsp_bytes a))
+module _ (a : VvcAps) (h : UnitHeader) (out after : List ℕ) (n : ℕ) (e : write_aps_nal a h out ≡ value after n) where
+  -- what `write_aps_nal` put
+  nal-put : (is_aps_header h ≡ true) × (a.aps_extension_flag ≡ false) × (aps.ok a ≡ true) × (n ≡ length (unit_of h (rbsp_bytes a))) × (take n after ≡ unit_of h (rbsp_bytes a))
   unfolding write_aps_nal
-  unit-then-read e room h = go (is_aps type) refl e
+  nal-put = go (is_aps_header h) refl e
     where
-      go : (b : Bool) → is_aps type ≡ b → cond b (bytes_due a then λ bytes m. put_bytes out (unit_of type bytes)) (refused 2) ≡ value after n
-          → parse_aps (take n after) room ≡ value (inferred a) (8 * length (rbsp_bytes a))
-      go true t e =
-          let (x, o, m, k) = due-put a (unit_of type) out after n e in
-          rw k (unit-parsed type (rbsp_bytes a) room t (unit-short a type o) (rw m at h) ∙ ap read_rbsp (sym (append-nil (rbsp_bytes a))) ∙ write_read a o x [])
+      go : (b : Bool) → is_aps_header h ≡ b → cond b (bytes_due a then λ bytes m. put_bytes out (unit_of h bytes)) (refused 2) ≡ value after n
+          → (is_aps_header h ≡ true) × (a.aps_extension_flag ≡ false) × (aps.ok a ≡ true) × (n ≡ length (unit_of h (rbsp_bytes a))) × (take n after ≡ unit_of h (rbsp_bytes a))
+      go true t e = let (x, o, m, k) = due-put a (unit_of h) out after n e in (t, x, o, m, k)
       go false t e = absurd (value-refused (sym e))
+
+  -- `write_aps_nal`, then `parse_aps`: the set, with what is not sent at its inferred values
+  pub unit-then-read : (room : ℕ) → n - 2 ≤ room → parse_aps (take n after) room ≡ value (inferred a) (8 * length (rbsp_bytes a))
+  unit-then-read room l =
+      let (t, x, o, m, k) = nal-put in
+      rw k (unit-parsed h (rbsp_bytes a) room t (unit-short a h o) (rw m at l) ∙ ap read_rbsp (sym (append-nil (rbsp_bytes a))) ∙ write_read a o x [])
+
+  -- and its header
+  pub unit-then-header : unit_header (take n after) ≡ value h 16
+  unit-then-header =
+      let (t, x, o, m, k) = nal-put in
+      rw k (unit-headed h (rbsp_bytes a) t (unit-short a h o))
 
 -- a set read with extension flag 0, as a unit, is read back as itself
 pub read-then-reads : (s : List ℕ) (a : VvcAps) (q : ℕ) → parse_aps_rbsp s ≡ value a q → a.aps_extension_flag ≡ false → Bytes s
-    → (type : ℕ) → is_aps type ≡ true → (room : ℕ) → length (unit_of type (take (q / 8) s)) - 2 ≤ room → parse_aps (unit_of type (take (q / 8) s)) room ≡ value a q
-read-then-reads s a q e x b type t room h =
+    → (h : UnitHeader) → is_aps_header h ≡ true → (room : ℕ) → length (unit_of h (take (q / 8) s)) - 2 ≤ room → parse_aps (unit_of h (take (q / 8) s)) room ≡ value a q
+read-then-reads s a q e x b h t room l =
     let r = read-limits s a q e in
     let (o, f) = rbsp-sound s a q r in
     let w = read-write s a q r x b in
-    let m : length (unit_of type (rbsp_bytes a)) - 2 ≤ room = rw (← w) at h in
+    let m : length (unit_of h (rbsp_bytes a)) - 2 ≤ room = rw (← w) at l in
     rw (← w)
-    (unit-parsed type (rbsp_bytes a) room t (unit-short a type o) m ∙ ap read_rbsp (sym (append-nil (rbsp_bytes a))) ∙ write_read a o x []
+    (unit-parsed h (rbsp_bytes a) room t (unit-short a h o) m ∙ ap read_rbsp (sym (append-nil (rbsp_bytes a))) ∙ write_read a o x []
     ∙ rw (f, read-bytes s a q e x b))

@@ -2,12 +2,12 @@
 use Rattle.bitstream.specs.declared.Refusal.{Refusal}
 use Rattle.std.specs.Prelude.{Result, Ok, Err}
 use mathlib.Core.Path.{◌≡◌, refl, sym, ap, ◌∙◌}
-use mathlib.Core.Bool.{Bool, true, false, cond}
-use mathlib.Core.List.{List, ◌++◌}
-use Prim.Native.Nat.{ℕ, ◌-◌, ◌≤◌, ◌/◌}
+use mathlib.Core.Bool.{Bool, true, false, cond, ◌&&◌, ◌||◌, false≢true}
+use mathlib.Core.List.{List, [], ◌∷◌, ◌++◌}
+use Prim.Native.Nat.{ℕ, suc, ◌*◌, ◌+◌, ◌-◌, ◌≤◌, ◌/◌, ◌%◌}
 use native.Mathlib.Omega.{arith}
-use borrow.Author.Tests.{ltb-false, le-ltb}
-use lib.Dec.{ltb}
+use borrow.Author.Tests.{ltb-false, le-ltb, leb-true, eqb-true}
+use lib.Dec.{leb, ltb, eqb}
 use lib.ListN.{length, take, drop, get_or, length-drop, length-append}
 use lib.Seq.{take-append_seam, take_all}
 use Rattle.bitstream.specs.Outcome.{Outcome, value, refused, outcome_written, ◌then◌}
@@ -16,8 +16,11 @@ use Rattle.bitstream.proofs.CodeLaws.{value-refused}
 use Rattle.bitstream.proofs.EscapeLaws.{unescape-most}
 use Rattle.aps.specs.Rbsp.{read_rbsp, parse_aps_rbsp}
 use Rattle.aps.specs.Inner.{Unwrapped}
-use Rattle.aps.specs.Unit.{is_aps, rbsp_of, header_of, parse_nal_header, admitted, parse_aps, work_after}
+use Rattle.aps.specs.Unit.{is_aps, rbsp_of, header_of, parse_nal_header, kept_of, is_aps_header, zero_bits, judged, unit_header, admitted, parse_aps, work_after}
+use Rattle.aps.specs.Writing.{header_bytes}
 use Rattle.aps.specs.declared.nal_header.VvcNalHeader.{VvcNalHeader}
+use Rattle.aps.specs.declared.unit_header.UnitHeader.{UnitHeader}
+use Rattle.aps.proofs.CodecLaws.{and_left, and_right}
 use Rattle.aps.proofs.RbspSteps.{in-limits}
 
 -- the bytes after the header
@@ -61,36 +64,130 @@ header-given u h = go (ltb 65536 (length u)) (ltb (length u) 2) refl refl
     go false true ea eb e = absurd (value-refused e)
     go false false ea eb e = (ltb-false _ _ eb, ltb-false _ _ ea, cc)
 
--- one without a header is not admitted
-pub not-admitted : (u : List ℕ) (room : ℕ) {n : ℕ} → refused n ≡ parse_nal_header u → refused n ≡ admitted u room
-unfolding parse_nal_header admitted
-not-admitted u room {n} = go (ltb 65536 (length u)) (ltb (length u) 2)
+type-within : (n : ℕ) → is_aps n ≡ true → (17 ≤ n) × (n ≤ 18)
+type-within n = go (eqb n 17) (eqb n 18) refl refl
   where
-    go : (a b : Bool) → refused n ≡ cond a (refused 4) (cond b (refused 1) (value (header_of u) 16))
-        → refused n ≡ cond a (refused 4) (cond b (refused 1) (cond (is_aps (get_or u 1 0 / 8)) (cond (ltb room (length u - 2)) (refused 5) (value (tt {0}) 16)) (refused 2)))
-    go true b e = ap (λ (o : Outcome VvcNalHeader). o then λ h q. value (tt {0}) q) e
-    go false true e = ap (λ (o : Outcome VvcNalHeader). o then λ h q. value (tt {0}) q) e
-    go false false e = absurd (value-refused (sym e))
+    go : (a b : Bool) → eqb n 17 ≡ a → eqb n 18 ≡ b → (a || b) ≡ true → (17 ≤ n) × (n ≤ 18)
+    go true b ea eb e = (omega (arith, eqb-true n 17 ea), omega (arith, eqb-true n 17 ea))
+    go false true ea eb e = (omega (arith, eqb-true n 18 eb), omega (arith, eqb-true n 18 eb))
+    go false false ea eb e = absurd (false≢true e)
 
--- a unit that passes its header: its lengths
-pub admitted-lengths : (u : List ℕ) (room : ℕ) → admitted u room ≡ value tt 16 → (2 ≤ length u) × (length u ≤ 65536) × (length u - 2 ≤ room)
-unfolding admitted
-admitted-lengths u room = go (ltb 65536 (length u)) (ltb (length u) 2) (is_aps (get_or u 1 0 / 8)) (ltb room (length u - 2)) refl refl refl
+all-four : (a b c d : Bool) → (a && (b && (c && d))) ≡ true → (a ≡ true) × (b ≡ true) × (c ≡ true) × (d ≡ true)
+all-four a b c d e =
+    let r = and_right a (b && (c && d)) e in
+    let s = and_right b (c && d) r in
+    (and_left a (b && (c && d)) e, and_left b (c && d) r, and_left c d s, and_right c d s)
+
+-- what holds of the header of an APS unit: its type, and its ranges
+module _ (h : UnitHeader) (e : is_aps_header h ≡ true) where
+  aps-parts : (is_aps h.nal_unit_type ≡ true) × (leb h.nuh_layer_id 55 ≡ true) × (leb 1 h.nuh_temporal_id_plus1 ≡ true) × (leb h.nuh_temporal_id_plus1 7 ≡ true)
+  unfolding is_aps_header
+  aps-parts = all-four (is_aps h.nal_unit_type) (leb h.nuh_layer_id 55) (leb 1 h.nuh_temporal_id_plus1) (leb h.nuh_temporal_id_plus1 7) e
+
+  pub aps-type : is_aps h.nal_unit_type ≡ true
+  aps-type = let (t, l, i, j) = aps-parts in t
+
+  pub aps-within : (17 ≤ h.nal_unit_type) × (h.nal_unit_type ≤ 18) × (h.nuh_layer_id ≤ 55) × (1 ≤ h.nuh_temporal_id_plus1) × (h.nuh_temporal_id_plus1 ≤ 7)
+  aps-within =
+      let (t, l, i, j) = aps-parts in
+      let (a, b) = type-within h.nal_unit_type t in
+      (a, b, leb-true _ _ l, leb-true _ _ i, leb-true _ _ j)
+
+-- one of an APS unit: its lengths, its two bytes, and that it is one
+pub record Headed (u : List ℕ) (h : UnitHeader) : Type 0 where
+  pub two : 2 ≤ length u
+  pub short : length u ≤ 65536
+  pub bytes : take 2 u ≡ header_bytes h
+  pub aps : is_aps_header h ≡ true
+
+-- the two bytes of a header without its zero bits
+two-bytes : (u : List ℕ) → 2 ≤ length u → zero_bits (header_of u) ≡ true → take 2 u ≡ header_bytes (kept_of (header_of u))
+unfolding zero_bits header_of
+two-bytes [] l z = absurd (omega arith)
+two-bytes (a ∷ []) l z = absurd (omega arith)
+two-bytes (a ∷ b ∷ u) l z =
+    let f = eqb-true (a / 128) 0 (and_left (eqb (a / 128) 0) (eqb (a / 64 % 2) 0) z) in
+    let r = eqb-true (a / 64 % 2) 0 (and_right (eqb (a / 128) 0) (eqb (a / 64 % 2) 0) z) in
+    let x : a ≡ a % 64 = omega (arith, f, r) in
+    let y : b ≡ b / 8 * 8 + b % 8 = omega arith in
+    ap (λ (n : ℕ). n ∷ b ∷ []) x ∙ ap (λ (n : ℕ). a % 64 ∷ n ∷ []) y
+
+header-read : (u : List ℕ) (h : UnitHeader) {p : ℕ} → unit_header u ≡ value h p → Headed u h × (p ≡ 16)
+unfolding unit_header parse_nal_header
+header-read u h {p} = go (ltb 65536 (length u)) (ltb (length u) 2) refl refl
   where
-    go : (a b k d : Bool) → ltb 65536 (length u) ≡ a → ltb (length u) 2 ≡ b → ltb room (length u - 2) ≡ d
-        → cond a (refused 4) (cond b (refused 1) (cond k (cond d (refused 5) (value tt 16)) (refused 2))) ≡ value (tt {0}) 16
-        → (2 ≤ length u) × (length u ≤ 65536) × (length u - 2 ≤ room)
-    go true b k d ea eb ed e = absurd (value-refused (sym e))
-    go false true k d ea eb ed e = absurd (value-refused (sym e))
-    go false false false d ea eb ed e = absurd (value-refused (sym e))
-    go false false true true ea eb ed e = absurd (value-refused (sym e))
-    go false false true false ea eb ed e = (ltb-false _ _ eb, ltb-false _ _ ea, ltb-false _ _ ed)
+    k : UnitHeader
+    k = kept_of (header_of u)
+
+    by : (c d : Bool) → is_aps_header k ≡ c → zero_bits (header_of u) ≡ d → 2 ≤ length u → length u ≤ 65536
+        → cond (c && d) (value k 16) (refused 2) ≡ value h p → Headed u h × (p ≡ 16)
+    by true true ec ed two short e =
+        let w : k ≡ h = cc in
+        (record { two = two; short = short; bytes = two-bytes u two ed ∙ ap header_bytes w; aps = ap is_aps_header (sym w) ∙ ec }, cc)
+    by true false ec ed two short e = absurd (value-refused (sym e))
+    by false d ec ed two short e = absurd (value-refused (sym e))
+
+    go : (a b : Bool) → ltb 65536 (length u) ≡ a → ltb (length u) 2 ≡ b
+        → (cond a (refused 4) (cond b (refused 1) (value (header_of u) 16)) then λ x q. judged x) ≡ value h p → Headed u h × (p ≡ 16)
+    go true b ea eb e = absurd (value-refused (sym e))
+    go false true ea eb e = absurd (value-refused (sym e))
+    go false false ea eb e = by (is_aps_header k) (zero_bits (header_of u)) refl refl (ltb-false (length u) 2 eb) (ltb-false 65536 (length u) ea) e
+
+pub headed : (u : List ℕ) (h : UnitHeader) {p : ℕ} → unit_header u ≡ value h p → Headed u h
+headed u h e = (header-read u h e).0
+
+-- it ends at bit 16
+pub header-ends : (u : List ℕ) (h : UnitHeader) {p : ℕ} → unit_header u ≡ value h p → unit_header u ≡ value h 16
+header-ends u h e = e ∙ ap (value h) (header-read u h e).1
+
+-- the two bytes of one are read as it
+pub headed-bytes : (h : UnitHeader) (l : List ℕ) → is_aps_header h ≡ true → length (header_bytes h ++ l) ≤ 65536 → unit_header (header_bytes h ++ l) ≡ value h 16
+unfolding unit_header parse_nal_header header_of zero_bits
+headed-bytes h l a m =
+    let i = aps-within h a in
+    let f : h.nuh_layer_id / 128 ≡ 0 = omega (arith, i) in
+    let r : h.nuh_layer_id / 64 % 2 ≡ 0 = omega (arith, i) in
+    let x : h.nuh_layer_id % 64 ≡ h.nuh_layer_id = omega (arith, i) in
+    let y : (h.nal_unit_type * 8 + h.nuh_temporal_id_plus1) / 8 ≡ h.nal_unit_type = omega (arith, i) in
+    let z : (h.nal_unit_type * 8 + h.nuh_temporal_id_plus1) % 8 ≡ h.nuh_temporal_id_plus1 = omega (arith, i) in
+    rw (le-ltb 65536 (suc (suc (length l))) m, le-ltb (suc (suc (length l))) 2 (omega arith), f, r, x, y, z, a)
+
+-- a unit with such a header goes as far as its RBSP if the work buffer suffices
+pub admitted-by : (u : List ℕ) (room : ℕ) (h : UnitHeader) {p : ℕ} → unit_header u ≡ value h p → admitted u room ≡ cond (ltb room (length u - 2)) (refused 5) (value h 16)
+unfolding admitted
+admitted-by u room h e = rw e
+
+-- one without goes no further
+pub not-admitted : (u : List ℕ) (room n : ℕ) → unit_header u ≡ refused n → admitted u room ≡ refused n
+unfolding admitted
+not-admitted u room n e = rw e
+
+-- a unit that passes its header: its header, and its lengths
+pub admitted-lengths : (u : List ℕ) (room : ℕ) (h : UnitHeader) {p : ℕ} → admitted u room ≡ value h p → (unit_header u ≡ value h 16) × (2 ≤ length u) × (length u ≤ 65536) × (length u - 2 ≤ room)
+unfolding admitted
+admitted-lengths u room h {p} = go (unit_header u) refl
+  where
+    go : (o : Outcome UnitHeader) → unit_header u ≡ o → (o then λ h p. cond (ltb room (length u - 2)) (refused 5) (value h 16)) ≡ value h p
+        → (unit_header u ≡ value h 16) × (2 ≤ length u) × (length u ≤ 65536) × (length u - 2 ≤ room)
+    go (refused n) f e = absurd (value-refused (sym e))
+    go (value x q) f e = by (ltb room (length u - 2)) refl e
+      where
+        value-is : {n m : ℕ} → value x n ≡ value h m → x ≡ h
+        value-is e = cc
+
+        by : (b : Bool) → ltb room (length u - 2) ≡ b → cond b (refused 5) (value x 16) ≡ value h p
+            → (unit_header u ≡ value h 16) × (2 ≤ length u) × (length u ≤ 65536) × (length u - 2 ≤ room)
+        by true t e = absurd (value-refused (sym e))
+        by false t e =
+            let g : unit_header u ≡ value h q = f ∙ ap (λ (y : UnitHeader). value y q) (value-is e) in
+            let w = headed u h g in
+            (header-ends u h g, w.two, w.short, ltb-false _ _ t)
 
 -- a unit that passes its header
-unit-read : (u w : List ℕ) → admitted u (length w) ≡ value tt 16
+unit-read : (u w : List ℕ) (h : UnitHeader) {p : ℕ} → admitted u (length w) ≡ value h p
     → (parse_aps u (length w) ≡ read_rbsp (rbsp_of u)) × (work_after u w ≡ rbsp_of u ++ drop (length (rbsp_of u)) w)
 unfolding parse_aps work_after
-unit-read u w e = (rw e, rw e)
+unit-read u w h e = (rw e, rw e)
 
 -- a unit that does not
 pub unit-refused : (u w : List ℕ) (n : ℕ) → admitted u (length w) ≡ refused n → (parse_aps u (length w) ≡ refused n) × (work_after u w ≡ w)
@@ -98,14 +195,14 @@ unfolding parse_aps work_after
 unit-refused u w n e = (rw e, rw e)
 
 -- the RBSP of a unit that passes its header, as unescaping answers it
-pub unwrapped : (u w v : List ℕ) (r : Result ℕ Refusal) → admitted u (length w) ≡ value tt 16 → outcome_written r v ≡ ebsp_to_rbsp (take (length u - 2) (drop 2 u)) w
+pub unwrapped : (u w v : List ℕ) (r : Result ℕ Refusal) (x : UnitHeader) {p : ℕ} → admitted u (length w) ≡ value x p → outcome_written r v ≡ ebsp_to_rbsp (take (length u - 2) (drop 2 u)) w
     → Unwrapped r (parse_aps u (length w)) v × (v ≡ work_after u w)
-unwrapped u w v (Ok n) e f =
-    let (h, l, m) = admitted-lengths u (length w) e in
-    let (a, b) = unit-read u w e in
+unwrapped u w v (Ok n) x e f =
+    let (g, h, l, m) = admitted-lengths u (length w) x e in
+    let (a, b) = unit-read u w x e in
     let k : value (rbsp_of u ++ drop (length (rbsp_of u)) w) (length (rbsp_of u)) ≡ value v n = sym (rbsp-put u w l m) ∙ sym f in
-    let x : rbsp_of u ++ drop (length (rbsp_of u)) w ≡ v = cc in
-    ((rbsp-within u w v n k, a ∙ rbsp-read u w v n l k), sym x ∙ sym b)
-unwrapped u w v (Err why) e f =
-    let (h, l, m) = admitted-lengths u (length w) e in
+    let y : rbsp_of u ++ drop (length (rbsp_of u)) w ≡ v = cc in
+    ((rbsp-within u w v n k, a ∙ rbsp-read u w v n l k), sym y ∙ sym b)
+unwrapped u w v (Err why) x e f =
+    let (g, h, l, m) = admitted-lengths u (length w) x e in
     absurd (value-refused (sym (rbsp-put u w l m) ∙ sym f))

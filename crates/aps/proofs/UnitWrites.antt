@@ -17,7 +17,8 @@ use Rattle.bitstream.specs.declared.Refusal.{Refusal}
 use Rattle.bitstream.specs.Escapes.{escape, put_bytes, rbsp_to_ebsp}
 use Rattle.bitstream.proofs.CodeLaws.{value-refused}
 use Rattle.bitstream.proofs.WriteLaws.{wrote}
-use Rattle.aps.specs.Unit.{is_aps}
+use Rattle.aps.specs.Unit.{is_aps_header}
+use Rattle.aps.specs.declared.unit_header.UnitHeader.{UnitHeader}
 use Rattle.aps.specs.Writing.{bytes_due, unit_of, write_aps, write_nal, write_aps_nal}
 use Rattle.aps.specs.declared.aps.VvcAps.{VvcAps}
 use Rattle.aps.proofs.RbspWrites.{taken-due}
@@ -74,40 +75,40 @@ answer-exit out r why h e = let p = err_from_is_err_and r h in (rw (p.1, p.2) e.
 -- ---- a unit
 
 -- the two bytes of the header before what was put after them
-head-set : (out last e : List ℕ) (t : ℕ) → 2 ≤ length out → last ≡ e ++ drop (length e) (mid_of 2 (length out - 2) out)
-    → set (set (put_mid 2 (length out - 2) out last) 0 0) 1 t ≡ (0 ∷ t ∷ e) ++ drop (length (0 ∷ t ∷ e)) out
-head-set [] last e t h w = absurd (omega arith)
-head-set (x ∷ []) last e t h w = absurd (omega arith)
-head-set (x ∷ y ∷ l) last e t h w =
+head-set : (out last e : List ℕ) (b t : ℕ) → 2 ≤ length out → last ≡ e ++ drop (length e) (mid_of 2 (length out - 2) out)
+    → set (set (put_mid 2 (length out - 2) out last) 0 b) 1 t ≡ (b ∷ t ∷ e) ++ drop (length (b ∷ t ∷ e)) out
+head-set [] last e b t h w = absurd (omega arith)
+head-set (x ∷ []) last e b t h w = absurd (omega arith)
+head-set (x ∷ y ∷ l) last e b t h w =
     let n : suc (suc (length l)) - 2 ≡ length l = omega arith in
     let v : last ≡ e ++ drop (length e) l = rw (n, take-length l) at w in
     rw (n, v, drop-length l, append-nil (e ++ drop (length e) l))
 
-module _ (out bytes : List ℕ) (type : ℕ) where
-  -- a unit type that is none of a set is refused
-  pub unit-type : is_aps type ≡ false → (refused 2 ≡ write_nal bytes type out) × (out ≡ left out (write_nal bytes type out))
+module _ (out bytes : List ℕ) (head : UnitHeader) where
+  -- a header that is none of an APS unit is refused
+  pub unit-header : is_aps_header head ≡ false → (refused 2 ≡ write_nal bytes head out) × (out ≡ left out (write_nal bytes head out))
   unfolding write_nal
-  unit-type t = wrote out (rw t)
+  unit-header t = wrote out (rw t)
 
-  module _ (t : is_aps type ≡ true) where
+  module _ (t : is_aps_header head ≡ true) where
     -- an RBSP over 65,536 bytes is refused
-    pub unit-long : 65536 < length bytes → (refused 4 ≡ write_nal bytes type out) × (out ≡ left out (write_nal bytes type out))
+    pub unit-long : 65536 < length bytes → (refused 4 ≡ write_nal bytes head out) × (out ≡ left out (write_nal bytes head out))
     unfolding write_nal
     unit-long h = wrote out (rw (t, lt-ltb 65536 (length bytes) h))
 
     -- any other is put as a unit
-    pub unit-due : length bytes ≤ 65536 → write_nal bytes type out ≡ put_bytes out (unit_of type bytes)
+    pub unit-due : length bytes ≤ 65536 → write_nal bytes head out ≡ put_bytes out (unit_of head bytes)
     unfolding write_nal
     unit-due h = rw (t, le-ltb 65536 (length bytes) h)
 
   -- a unit is its header and the escaped bytes
-  unit-length : length (unit_of type bytes) ≡ 2 + length (escape bytes)
+  unit-length : length (unit_of head bytes) ≡ 2 + length (escape bytes)
   unfolding unit_of
   unit-length = omega arith
 
   -- with no room for the header it is refused
-  pub unit-short : length out < 2 → (refused 5 ≡ put_bytes out (unit_of type bytes)) × (out ≡ left out (put_bytes out (unit_of type bytes)))
-  unit-short h = not-copied out (unit_of type bytes) (omega (arith, unit-length))
+  pub unit-short : length out < 2 → (refused 5 ≡ put_bytes out (unit_of head bytes)) × (out ≡ left out (put_bytes out (unit_of head bytes)))
+  unit-short h = not-copied out (unit_of head bytes) (omega (arith, unit-length))
 
   module _ (h : 2 ≤ length out) (b : length bytes ≤ 65536) where
     -- the output after the header
@@ -132,32 +133,32 @@ module _ (out bytes : List ℕ) (type : ℕ) where
 
       -- the header and the escaped bytes after it are the unit
       pub unit-put : value last n ≡ rbsp_to_ebsp bytes rest
-          → (value (set (set (put_mid 2 (length out - 2) out last) 0 0) 1 (type * 8 + 1)) (n + 2) ≡ put_bytes out (unit_of type bytes))
-          × (set (set (put_mid 2 (length out - 2) out last) 0 0) 1 (type * 8 + 1) ≡ left out (put_bytes out (unit_of type bytes)))
+          → (value (set (set (put_mid 2 (length out - 2) out last) 0 head.nuh_layer_id) 1 (head.nal_unit_type * 8 + head.nuh_temporal_id_plus1)) (n + 2) ≡ put_bytes out (unit_of head bytes))
+          × (set (set (put_mid 2 (length out - 2) out last) 0 head.nuh_layer_id) 1 (head.nal_unit_type * 8 + head.nuh_temporal_id_plus1) ≡ left out (put_bytes out (unit_of head bytes)))
       unfolding unit_of
       unit-put e =
           let (f, g, l) = put-value rest (escape bytes) last n (e ∙ escaped) in
-          let s = head-set out last (escape bytes) (type * 8 + 1) h f in
+          let s = head-set out last (escape bytes) head.nuh_layer_id (head.nal_unit_type * 8 + head.nuh_temporal_id_plus1) h f in
           let m : n + 2 ≡ suc (suc (length (escape bytes))) = omega arith in
-          wrote out (out-fits out (0 ∷ (type * 8 + 1) ∷ escape bytes) (omega (arith, rest-length)) ∙ rw (s, m))
+          wrote out (out-fits out (head.nuh_layer_id ∷ (head.nal_unit_type * 8 + head.nuh_temporal_id_plus1) ∷ escape bytes) (omega (arith, rest-length)) ∙ rw (s, m))
 
     -- with no room for what follows the header it is refused
     pub unit-refused : (last : List ℕ) (n : ℕ) → refused n ≡ rbsp_to_ebsp bytes rest → last ≡ left rest (rbsp_to_ebsp bytes rest)
-        → (refused n ≡ put_bytes out (unit_of type bytes)) × (put_mid 2 (length out - 2) out last ≡ left out (put_bytes out (unit_of type bytes)))
+        → (refused n ≡ put_bytes out (unit_of head bytes)) × (put_mid 2 (length out - 2) out last ≡ left out (put_bytes out (unit_of head bytes)))
     unit-refused last n e k =
         let (f, l) = put_refused rest (escape bytes) n (e ∙ escaped) in
         let s : last ≡ rest = k ∙ ap (left rest) (sym e) in
         let p : put_mid 2 (length out - 2) out last ≡ out = rw s (put_same 2 (length out - 2) out) in
-        let w = not-copied out (unit_of type bytes) (omega (arith, unit-length, rest-length)) in
+        let w = not-copied out (unit_of head bytes) (omega (arith, unit-length, rest-length)) in
         (ap refused f ∙ w.0, p ∙ w.1)
 
 -- ---- the two calls
 
 module _ (set : VvcAps) (out : List ℕ) where
-  -- a unit type that is none of a set is refused
-  pub nal-type : (type : ℕ) → is_aps type ≡ false → (refused 2 ≡ write_aps_nal set type out) × (out ≡ left out (write_aps_nal set type out))
+  -- a header that is none of an APS unit is refused
+  pub nal-header : (head : UnitHeader) → is_aps_header head ≡ false → (refused 2 ≡ write_aps_nal set head out) × (out ≡ left out (write_aps_nal set head out))
   unfolding write_aps_nal
-  nal-type type t = wrote out (rw t)
+  nal-header head t = wrote out (rw t)
 
   -- a set that is refused
   module _ (n : ℕ) (e : refused n ≡ bytes_due set) where
@@ -167,9 +168,9 @@ module _ (set : VvcAps) (out : List ℕ) where
     aps-refused = wrote out (ap (λ (o : Outcome (List ℕ)). o then λ bytes n. put_bytes out bytes) (sym e))
 
     -- and as a unit
-    pub nal-refused : (type : ℕ) → is_aps type ≡ true → (refused n ≡ write_aps_nal set type out) × (out ≡ left out (write_aps_nal set type out))
+    pub nal-refused : (head : UnitHeader) → is_aps_header head ≡ true → (refused n ≡ write_aps_nal set head out) × (out ≡ left out (write_aps_nal set head out))
     unfolding write_aps_nal
-    nal-refused type t = wrote out (rw t (ap (λ (o : Outcome (List ℕ)). o then λ bytes n. put_bytes out (unit_of type bytes)) (sym e)))
+    nal-refused head t = wrote out (rw t (ap (λ (o : Outcome (List ℕ)). o then λ bytes n. put_bytes out (unit_of head bytes)) (sym e)))
 
   -- one whose bytes are l
   module _ (l : List ℕ) (n : ℕ) (e : value l n ≡ bytes_due set) where
@@ -183,6 +184,6 @@ module _ (set : VvcAps) (out : List ℕ) where
     aps-bytes = ap (λ (o : Outcome (List ℕ)). o then λ bytes n. put_bytes out bytes) (sym e)
 
     -- or as a unit
-    pub nal-bytes : (type : ℕ) → is_aps type ≡ true → length l ≤ 65536 → write_aps_nal set type out ≡ write_nal l type out
+    pub nal-bytes : (head : UnitHeader) → is_aps_header head ≡ true → length l ≤ 65536 → write_aps_nal set head out ≡ write_nal l head out
     unfolding write_aps_nal
-    nal-bytes type t h = rw t (ap (λ (o : Outcome (List ℕ)). o then λ bytes n. put_bytes out (unit_of type bytes)) (sym e)) ∙ sym (unit-due out l type t h)
+    nal-bytes head t h = rw t (ap (λ (o : Outcome (List ℕ)). o then λ bytes n. put_bytes out (unit_of head bytes)) (sym e)) ∙ sym (unit-due out l head t h)

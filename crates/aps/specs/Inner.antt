@@ -19,6 +19,7 @@ use Rattle.aps.specs.declared.aps.ApsHead.{ApsHead}
 use Rattle.aps.specs.declared.aps.Reading.{Reading}
 use Rattle.aps.specs.declared.opened.Opened.{Opened}
 use Rattle.aps.specs.declared.aps.VvcAps.{VvcAps}
+use Rattle.aps.specs.declared.unit_header.UnitHeader.{UnitHeader}
 
 -- ---- reading
 
@@ -121,6 +122,7 @@ abbrev pub Unwrapped : Result ℕ Refusal → Outcome VvcAps → List ℕ → Ty
 Unwrapped (Ok n) o work = (n ≤ length work) × (o ≡ parse_aps_rbsp (take n work))
 Unwrapped (Err e) o work = o ≡ refused (number e)
 
-abbrev pub outcome_admission : Result (Unit {0}) Refusal → Outcome (Unit {0})
-outcome_admission (Ok x) = value tt 16
-outcome_admission (Err e) = refused (number e)
+-- whether a unit gets as far as its RBSP
+abbrev pub Admits : Result (Unit {0}) Refusal → Outcome UnitHeader → Type 0
+Admits (Ok x) o = (h : UnitHeader) × (o ≡ value h 16)
+Admits (Err e) o = o ≡ refused (number e)

@@ -9,7 +9,7 @@ use Rattle.aps.specs.Codec.{via}
 use Rattle.aps.specs.ApsSyntax.{ApsData, aps_syntax, aps, from_aps, of_alf, of_lmcs, of_scaling, payload_of, number_of, zero_alf, zero_lmcs, zero_scaling}
 use Rattle.aps.specs.Rbsp.{rbsp_bits, rbsp_bytes}
 use Rattle.aps.specs.ScalingSyntax.{look}
-use Rattle.aps.specs.Unit.{is_aps}
+use Rattle.aps.specs.Unit.{is_aps_header}
 use Rattle.aps.specs.Writing.{rbsp_due, bytes_due, alf_set, lmcs_set, scaling_set, unit_of, write_aps, write_aps_nal}
 use Rattle.aps.specs.Inner.{assembled, Bare}
 use Rattle.aps.specs.declared.alf.VvcAlfData.{VvcAlfData}
@@ -18,6 +18,7 @@ use Rattle.aps.specs.declared.scaling_list.VvcScalingListData.{VvcScalingListDat
 use Rattle.aps.specs.declared.aps.ApsHead.{ApsHead}
 use Rattle.aps.specs.declared.aps.ApsKind.{ApsKind}
 use Rattle.aps.specs.declared.aps.VvcAps.{VvcAps}
+use Rattle.aps.specs.declared.unit_header.UnitHeader.{UnitHeader}
 
 -- the arrays of the other kinds are 0
 pub bare_alf : (k : ApsKind) (h : ApsHead) (d : VvcAlfData) → k ≡ ApsKind.Alf → Bare k (assembled h d zero_lmcs zero_scaling)
@@ -99,6 +100,6 @@ unfolding write_aps
 alike a b out e = ap (λ (o : Outcome (List ℕ)). o then λ bytes n. put_bytes out bytes) (due-alike a b e)
 
 -- as units too
-pub alike_nal : (a b : VvcAps) (type : ℕ) (out : List ℕ) → from_aps a ≡ from_aps b → write_aps_nal a type out ≡ write_aps_nal b type out
+pub alike_nal : (a b : VvcAps) (h : UnitHeader) (out : List ℕ) → from_aps a ≡ from_aps b → write_aps_nal a h out ≡ write_aps_nal b h out
 unfolding write_aps_nal
-alike_nal a b type out e = ap (λ (o : Outcome (List ℕ)). cond (is_aps type) (o then λ bytes n. put_bytes out (unit_of type bytes)) (refused 2)) (due-alike a b e)
+alike_nal a b h out e = ap (λ (o : Outcome (List ℕ)). cond (is_aps_header h) (o then λ bytes n. put_bytes out (unit_of h bytes)) (refused 2)) (due-alike a b e)

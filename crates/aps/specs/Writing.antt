@@ -1,10 +1,11 @@
 -- What the writers put: the bytes of a set as an RBSP and as a unit.
-use Rattle.std.specs.Prelude.{Bool, cond, List, ◌∷◌, ℕ, ◌+◌, ◌*◌, ltb, length}
+use Rattle.std.specs.Prelude.{Bool, cond, List, [], ◌∷◌, ◌++◌, ℕ, ◌+◌, ◌*◌, ltb, length}
 use Rattle.bitstream.specs.Outcome.{Outcome, value, refused, ◌then◌}
 use Rattle.bitstream.specs.Escapes.{escape, put_bytes}
 use Rattle.aps.specs.ApsSyntax.{aps, zero_alf, zero_lmcs, zero_scaling}
 use Rattle.aps.specs.Rbsp.{rbsp_bytes}
-use Rattle.aps.specs.Unit.{is_aps}
+use Rattle.aps.specs.Unit.{is_aps_header}
+use Rattle.aps.specs.declared.unit_header.UnitHeader.{UnitHeader}
 use Rattle.aps.specs.declared.alf.VvcAlfData.{VvcAlfData}
 use Rattle.aps.specs.declared.lmcs.VvcLmcsData.{VvcLmcsData}
 use Rattle.aps.specs.declared.scaling_list.VvcScalingListData.{VvcScalingListData}
@@ -60,14 +61,18 @@ scaling_set id chroma extension d =
       scaling = d;
     }
 
--- a unit of layer 0 and temporal id 0: the two bytes of its header, then the RBSP with escapes put in
-unfoldable pub unit_of : ℕ → List ℕ → List ℕ
-unit_of type bytes = 0 ∷ (type * 8 + 1) ∷ escape bytes
+-- a header's two bytes, forbidden_zero_bit and nuh_reserved_zero_bit 0
+abbrev pub header_bytes : UnitHeader → List ℕ
+header_bytes h = h.nuh_layer_id ∷ (h.nal_unit_type * 8 + h.nuh_temporal_id_plus1) ∷ []
 
--- `write_nal`: an RBSP as a unit. 2: the unit's type; 4: the RBSP is over 65,536 bytes; 5 comes last
-unfoldable pub write_nal : List ℕ → ℕ → List ℕ → Outcome (List ℕ)
-write_nal rbsp type out = cond (is_aps type) (cond (ltb 65536 (length rbsp)) (refused 4) (put_bytes out (unit_of type rbsp))) (refused 2)
+-- a unit: its header, then the RBSP with escapes put in
+unfoldable pub unit_of : UnitHeader → List ℕ → List ℕ
+unit_of h bytes = header_bytes h ++ escape bytes
 
--- `write_aps_nal`: the unit type is judged first
-unfoldable pub write_aps_nal : VvcAps → ℕ → List ℕ → Outcome (List ℕ)
-write_aps_nal a type out = cond (is_aps type) (bytes_due a then λ bytes n. put_bytes out (unit_of type bytes)) (refused 2)
+-- `write_nal`: an RBSP as a unit. 2: the header is none of an APS unit; 4: the RBSP is over 65,536 bytes; 5 comes last
+unfoldable pub write_nal : List ℕ → UnitHeader → List ℕ → Outcome (List ℕ)
+write_nal rbsp h out = cond (is_aps_header h) (cond (ltb 65536 (length rbsp)) (refused 4) (put_bytes out (unit_of h rbsp))) (refused 2)
+
+-- `write_aps_nal`: the header is judged first
+unfoldable pub write_aps_nal : VvcAps → UnitHeader → List ℕ → Outcome (List ℕ)
+write_aps_nal a h out = cond (is_aps_header h) (bytes_due a then λ bytes n. put_bytes out (unit_of h bytes)) (refused 2)

@@ -23,5 +23,6 @@ mod scaling_list_data;
 mod scaling_list_write;
 mod scaling_set;
 pub mod unit;
+pub mod unit_header;
 pub mod write;
 mod writer;

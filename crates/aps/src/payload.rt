@@ -14,13 +14,15 @@ ghost use Rattle.aps.specs.Writes.{Wrote};
 ghost use Rattle.aps.specs.declared.aps.ApsHead.{ApsHead};
 ghost use Rattle.aps.specs.declared.aps.ApsKind.{ApsKind};
 ghost use Rattle.aps.specs.declared.aps.VvcAps.{VvcAps};
+ghost use Rattle.aps.specs.declared.unit_header.UnitHeader.{UnitHeader};
 
 use crate::alf::VvcAlfData;
 use crate::aps::{ApsHead, ApsKind, Reading, open_rbsp};
 use crate::lmcs::VvcLmcsData;
 use crate::opened::Opened;
 use crate::scaling_list::VvcScalingListData;
-use crate::unit::{is_aps, rbsp_to_work};
+use crate::unit::rbsp_to_work;
+use crate::unit_header::UnitHeader;
 use crate::write::{copy_out, put_rbsp, write_nal};
 use crate::writer::Writer;
 use bitstream::Refusal;
@@ -62,19 +64,19 @@ pub trait Payload: Copy {
         id: u8,
         chroma: bool,
         extension: bool,
-        unit_type: u8,
+        header: UnitHeader,
         out: &mut [u8],
     ) -> Result<usize, Refusal>
-        ensures answer { outcome_written result out.new ≡ write_aps_nal (alone id chroma extension self.now) unit_type out.old }
-        ensures bytes { out.new ≡ left out.old (write_aps_nal (alone id chroma extension self.now) unit_type out.old) };
+        ensures answer { outcome_written result out.new ≡ write_aps_nal (alone id chroma extension self.now) header out.old }
+        ensures bytes { out.new ≡ left out.old (write_aps_nal (alone id chroma extension self.now) header out.old) };
 
     // Sets of its kind with the same payload are written alike.
     ghost alike: { (a : VvcAps) (out : List ℕ) → a.kind ≡ KIND
         → write_aps (alone a.aps_adaptation_parameter_set_id a.aps_chroma_present_flag a.aps_extension_flag (part a)) out ≡ write_aps a out };
 
     // As a unit too.
-    ghost alike_nal: { (a : VvcAps) (type : ℕ) (out : List ℕ) → a.kind ≡ KIND
-        → write_aps_nal (alone a.aps_adaptation_parameter_set_id a.aps_chroma_present_flag a.aps_extension_flag (part a)) type out ≡ write_aps_nal a type out };
+    ghost alike_nal: { (a : VvcAps) (h : UnitHeader) (out : List ℕ) → a.kind ≡ KIND
+        → write_aps_nal (alone a.aps_adaptation_parameter_set_id a.aps_chroma_present_flag a.aps_extension_flag (part a)) h out ≡ write_aps_nal a h out };
 }
 
 // How it is read and written, field by field; by functions of each kind's own, since each has a syntax of its own in H.266.
@@ -176,20 +178,20 @@ impl<P: Coded> Payload for P {
         id: u8,
         chroma: bool,
         extension: bool,
-        unit_type: u8,
+        header: UnitHeader,
         out: &mut [u8],
     ) -> Result<usize, Refusal> {
-        if !is_aps(unit_type) {
+        if !header.is_aps() {
             return Err(Refusal::InvalidData);
         }
         let mut rbsp = Writer::new();
         put_rbsp(&mut rbsp, id, chroma, extension, self)?;
-        write_nal(rbsp.bytes(), unit_type, out)
+        write_nal(rbsp.bytes(), header, out)
     }
 
     ghost alike = { λ a out e. alike _ a out (P.sent_part a e) };
 
-    ghost alike_nal = { λ a type out e. alike_nal _ a type out (P.sent_part a e) };
+    ghost alike_nal = { λ a h out e. alike_nal _ a h out (P.sent_part a e) };
 }
 
 // A set of which one kind's payload is kept: its head and that payload, none where the set is of another kind.

@@ -1,30 +1,20 @@
-// A unit, H.266 7.3.1.2: its header's type, and the set that it holds.
+// A unit, H.266 7.3.1.2: its header judged, and the set that it holds.
 ghost use Rattle.std.specs.Prelude.{◌≡◌, length};
 ghost use Rattle.bitstream.specs.Outcome.{map_outcome};
-ghost use Rattle.aps.specs.Inner.{outcome_admission, Unwrapped};
-ghost use Rattle.aps.specs.Unit.{is_aps, admitted, parse_aps, work_after};
+ghost use Rattle.aps.specs.Inner.{Admits, Unwrapped};
+ghost use Rattle.aps.specs.Unit.{admitted, parse_aps, work_after};
 ghost use Rattle.aps.specs.Reading.{outcome_reading, head_of};
 
 use crate::aps::{ApsHead, Reading, VvcAps, parse_aps_head, parse_aps_rbsp};
-use crate::nal_header::{NAL_TYPE_PREFIX_APS, NAL_TYPE_SUFFIX_APS, parse_nal_header};
+use crate::unit_header::parse_unit_header;
 use bitstream::Refusal;
 use bitstream::nal::ebsp_to_rbsp;
 
-// A prefix or a suffix APS. The type is a number: C passes it, the Rust's header has it so, and 2 answers every other.
-pub fn is_aps(unit_type: u8) -> bool
-    ensures { result ≡ is_aps unit_type }
-{
-    unit_type == NAL_TYPE_PREFIX_APS || unit_type == NAL_TYPE_SUFFIX_APS
-}
-
 // Whether a unit gets as far as its RBSP.
 fn admit(unit: &[u8], room: usize) -> Result<(), Refusal>
-    ensures { outcome_admission result ≡ admitted unit.now room }
+    ensures { Admits result (admitted unit.now room) }
 {
-    let header = parse_nal_header(unit)?;
-    if !is_aps(header.nal_unit_type) {
-        return Err(Refusal::InvalidData);
-    }
+    parse_unit_header(unit)?;
     if room < unit.len() - 2 {
         return Err(Refusal::OutputTooShort);
     }

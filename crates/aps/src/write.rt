@@ -14,7 +14,7 @@ use crate::aps::{ApsKind, VvcAps};
 use crate::lmcs::VvcLmcsData;
 use crate::payload::Coded;
 use crate::scaling_list::VvcScalingListData;
-use crate::unit::is_aps;
+use crate::unit_header::UnitHeader;
 use crate::writer::Writer;
 use bitstream::nal::rbsp_to_ebsp;
 use bitstream::{Input, Refusal};
@@ -80,12 +80,12 @@ pub fn copy_out(bytes: &[u8], out: &mut [u8]) -> Result<usize, Refusal>
     Ok(bytes.len())
 }
 
-// An RBSP as a unit: its header, then the RBSP with escapes put in. 2: the unit's type; 4; 5.
-pub fn write_nal(rbsp: &[u8], unit_type: u8, out: &mut [u8]) -> Result<usize, Refusal>
-    ensures answer { outcome_written result out.new ≡ write_nal rbsp.now unit_type out.old }
-    ensures bytes { out.new ≡ left out.old (write_nal rbsp.now unit_type out.old) }
+// An RBSP as a unit: its header, then the RBSP with escapes put in. 2: the header's type, then its layer and temporal id; 4; 5.
+pub fn write_nal(rbsp: &[u8], header: UnitHeader, out: &mut [u8]) -> Result<usize, Refusal>
+    ensures answer { outcome_written result out.new ≡ write_nal rbsp.now header out.old }
+    ensures bytes { out.new ≡ left out.old (write_nal rbsp.now header out.old) }
 {
-    if !is_aps(unit_type) {
+    if !header.is_aps() {
         return Err(Refusal::InvalidData);
     }
     let input = Input::new(rbsp)?;
@@ -93,8 +93,8 @@ pub fn write_nal(rbsp: &[u8], unit_type: u8, out: &mut [u8]) -> Result<usize, Re
         return Err(Refusal::OutputTooShort);
     }
     let n = rbsp_to_ebsp(input.bytes, &mut out[2..])?;
-    out[0] = 0;
-    out[1] = unit_type * 8 + 1;
+    out[0] = header.nuh_layer_id;
+    out[1] = header.nal_unit_type * 8 + header.nuh_temporal_id_plus1;
     Ok(n + 2)
 }
 
@@ -109,14 +109,14 @@ pub fn write_aps(set: &VvcAps, out: &mut [u8]) -> Result<usize, Refusal>
 }
 
 // A set as a unit: its header, then the RBSP with escapes put in.
-pub fn write_aps_nal(set: &VvcAps, unit_type: u8, out: &mut [u8]) -> Result<usize, Refusal>
-    ensures answer { outcome_written result out.new ≡ write_aps_nal set.now unit_type out.old }
-    ensures bytes { out.new ≡ left out.old (write_aps_nal set.now unit_type out.old) }
+pub fn write_aps_nal(set: &VvcAps, header: UnitHeader, out: &mut [u8]) -> Result<usize, Refusal>
+    ensures answer { outcome_written result out.new ≡ write_aps_nal set.now header out.old }
+    ensures bytes { out.new ≡ left out.old (write_aps_nal set.now header out.old) }
 {
-    if !is_aps(unit_type) {
+    if !header.is_aps() {
         return Err(Refusal::InvalidData);
     }
     let mut writer = Writer::new();
     write_rbsp(&mut writer, set)?;
-    write_nal(writer.bytes(), unit_type, out)
+    write_nal(writer.bytes(), header, out)
 }

@@ -10,17 +10,16 @@ use lib.Dec.{eqb}
 use lib.ListN.{length, drop}
 use Rattle.bitstream.specs.Outcome.{value}
 use Rattle.bitstream.specs.Escapes.{put_bytes}
-use Rattle.aps.specs.declared.aps.VvcAps.{VvcAps}
-use Rattle.aps_table.specs.Places.{Entries, names, present, filled_among, filled, held}
+use Rattle.aps_table.specs.Places.{HeldAps, Entries, names, present, filled_among, filled, held}
 use Rattle.aps_table.specs.List.{listed, any_extended, list_due, write_list}
 
 -- no set
-none-present : (a : Option VvcAps) → eqb (present a) 1 ≡ false → present a ≡ 0
+none-present : (a : Option HeldAps) → eqb (present a) 1 ≡ false → present a ≡ 0
 none-present none e = refl
 none-present (some a) e = cc
 
 -- no set among so many
-none_of : (a : Option VvcAps) (m : ℕ) → present a + m ≡ 0 → (a ≡ none) × (m ≡ 0)
+none_of : (a : Option HeldAps) (m : ℕ) → present a + m ≡ 0 → (a ≡ none) × (m ≡ 0)
 none_of none m e = (refl, omega (arith, e))
 none_of (some a) m e = absurd (omega (arith, e))
 

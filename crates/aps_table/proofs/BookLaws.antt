@@ -10,8 +10,7 @@ use borrow.Author.Tests.{leb-true, leb-false}
 use lib.Dec.{leb, eqb}
 use Rattle.bitstream.specs.Outcome.{Outcome, value, refused}
 use Rattle.aps.specs.Kinds.{largest_id}
-use Rattle.aps.specs.declared.aps.VvcAps.{VvcAps}
-use Rattle.aps_table.specs.Places.{Names, ids, names, filled_among, Entries, kind_in, id_in, extended}
+use Rattle.aps_table.specs.Places.{HeldAps, Names, ids, names, filled_among, Entries, kind_in, id_in, extended}
 use Rattle.aps_table.specs.Taking.{Verdict, accept, pass, damage, refuse, verdict}
 use Rattle.aps_table.specs.Calls.{Call, stream, alone, units_taken}
 use Rattle.aps_table.specs.List.{is_extended, any_extended, listed, list_due}
@@ -74,23 +73,23 @@ all-names =
 -- ---- the last unit that named a place
 
 -- the last of a list, or what came before it
-abbrev or_last : List (Option VvcAps) → Option VvcAps → Option VvcAps
+abbrev or_last : List (Option HeldAps) → Option HeldAps → Option HeldAps
 or_last [] o = o
 or_last (p ∷ l) o = last (p ∷ l)
 
-last-cons : (l : List (Option VvcAps)) (o x : Option VvcAps) → or_last (o ∷ l) x ≡ or_last l o
+last-cons : (l : List (Option HeldAps)) (o x : Option HeldAps) → or_last (o ∷ l) x ≡ or_last l o
 unfolding last
 last-cons [] o x = refl
 last-cons (p ∷ l) o x = refl
 
-last-none : (l : List (Option VvcAps)) → or_last l none ≡ last l
+last-none : (l : List (Option HeldAps)) → or_last l none ≡ last l
 unfolding last
 last-none [] = refl
 last-none (o ∷ l) = refl
 
 module _ (k i : ℕ) where
   -- one unit more that names a place
-  last-one : (l j : ℕ) (o : Option VvcAps) (es : List Naming) (b : Entries)
+  last-one : (l j : ℕ) (o : Option HeldAps) (es : List Naming) (b : Entries)
       → or_last (of_place k i (((l, j), o) ∷ es)) (b k i) ≡ or_last (of_place k i es) (replace l j o b k i)
   unfolding of_place
   last-one l j o es b = go (eqb k l && eqb i j)
@@ -100,7 +99,7 @@ module _ (k i : ℕ) where
       go false = refl
 
   last-noted : (v : Verdict) (es : List Naming) (b : Entries) → or_last (of_place k i (naming v es)) (b k i) ≡ or_last (of_place k i es) (note v b k i)
-  last-noted (accept a q) es b = last-one (kind_in a) (id_in a) (some a) es b
+  last-noted (accept x q) es b = last-one (kind_in x.set) (id_in x.set) (some x) es b
   last-noted pass es b = refl
   last-noted (damage l j n) es b = last-one l j none es b
   last-noted (refuse n) es b = refl
@@ -132,7 +131,7 @@ abbrev pub Agree : Entries → Entries → Type 0
 Agree b c = (k i : ℕ) → Names k i → b k i ≡ c k i
 
 pub agree-note : (v : Verdict) (b c : Entries) → Agree b c → Agree (note v b) (note v c)
-agree-note (accept a q) b c h = λ k i n. ap (cond (eqb k (kind_in a) && eqb i (id_in a)) (some a)) (h k i n)
+agree-note (accept x q) b c h = λ k i n. ap (cond (eqb k (kind_in x.set) && eqb i (id_in x.set)) (some x)) (h k i n)
 agree-note pass b c h = h
 agree-note (damage l j m) b c h = λ k i n. ap (cond (eqb k l && eqb i j) none) (h k i n)
 agree-note (refuse m) b c h = h
@@ -179,17 +178,17 @@ filled-agree (n ∷ ns) a b m h = rw (h n.0 n.1 m.0, filled-agree ns a b m.1 h)
 -- ---- extension flags
 
 -- none of the sets has one
-pub none-extended : (ns : List (ℕ × ℕ)) (b : Entries) → AllNames ns → ((k i : ℕ) (a : VvcAps) → Names k i → b k i ≡ some a → extended a ≡ false) → any_extended ns b ≡ false
+pub none-extended : (ns : List (ℕ × ℕ)) (b : Entries) → AllNames ns → ((k i : ℕ) (x : HeldAps) → Names k i → b k i ≡ some x → extended x.set ≡ false) → any_extended ns b ≡ false
 unfolding any_extended AllNames
 none-extended [] b m h = refl
 none-extended (n ∷ ns) b m h = go (b n.0 n.1) refl (none-extended ns b m.1 h)
   where
-    go : (o : Option VvcAps) → b n.0 n.1 ≡ o → any_extended ns b ≡ false → (is_extended (b n.0 n.1) || any_extended ns b) ≡ false
+    go : (o : Option HeldAps) → b n.0 n.1 ≡ o → any_extended ns b ≡ false → (is_extended (b n.0 n.1) || any_extended ns b) ≡ false
     go none e r = rw e r
     go (some x) e r = rw (e, h n.0 n.1 x m.0 e) r
 
 -- one has
-pub one-extended : (ns : List (ℕ × ℕ)) (b : Entries) (k i : ℕ) (a : VvcAps) → In k i ns → b k i ≡ some a → extended a ≡ true → any_extended ns b ≡ true
+pub one-extended : (ns : List (ℕ × ℕ)) (b : Entries) (k i : ℕ) (x : HeldAps) → In k i ns → b k i ≡ some x → extended x.set ≡ true → any_extended ns b ≡ true
 unfolding any_extended In
 one-extended [] b k i a h q f = absurd h
 one-extended (n ∷ ns) b k i a (inl p) q f = rw (← p.0, ← p.1, q, f)

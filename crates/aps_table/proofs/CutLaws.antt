@@ -12,11 +12,11 @@ use lib.Dec.{ltb, eqb, lit≤}
 use lib.ListN.{length, length-append}
 use Rattle.bitstream.specs.Outcome.{Outcome, value, refused}
 use Rattle.aps.specs.Rbsp.{read_rbsp}
-use Rattle.aps.specs.Unit.{rbsp_of}
-use Rattle.aps.specs.declared.aps.VvcAps.{VvcAps}
+use Rattle.aps.specs.Unit.{rbsp_of, is_aps_header, unit_header}
 use Rattle.aps.proofs.CodecLaws.{and_left, and_right}
+use Rattle.aps.proofs.UnitSteps.{headed}
 use Rattle.aps_table.specs.Split.{framed}
-use Rattle.aps_table.specs.Places.{names, Entries, kind_in, id_in, filled_among, filled}
+use Rattle.aps_table.specs.Places.{HeldAps, names, Entries, kind_in, id_in, filled_among, filled}
 use Rattle.aps_table.specs.Taking.{Verdict, accept, pass, damage, refuse, verdict, tally, no_units}
 use Rattle.aps_table.specs.Calls.{Call, stream, alone, counted, units_taken, answer_to}
 use Rattle.aps_table.specs.List.{is_extended, any_extended, joined, listed, list_due}
@@ -30,17 +30,18 @@ use Rattle.aps_table.proofs.BookLaws.{In, in-names, Agree}
 
 -- ---- what a book holds came from units, and stands under its own kind and id
 
-pub record Came (k i : ℕ) (a : VvcAps) : Type 0 where
+pub record Came (k i : ℕ) (x : HeldAps) : Type 0 where
   pub rbsp : List ℕ
   pub end : ℕ
-  pub read : read_rbsp rbsp ≡ value a end
-  pub kind-is : kind_in a ≡ k
-  pub id-is : id_in a ≡ i
+  pub read : read_rbsp rbsp ≡ value x.set end
+  pub header-is : is_aps_header x.header ≡ true
+  pub kind-is : kind_in x.set ≡ k
+  pub id-is : id_in x.set ≡ i
 
 abbrev pub Held : Entries → Type 0
-Held b = (k i : ℕ) (a : VvcAps) → b k i ≡ some a → Came k i a
+Held b = (k i : ℕ) (x : HeldAps) → b k i ≡ some x → Came k i x
 
-none-some : {a : VvcAps} → none ≡ some a → ⊥
+none-some : {x : HeldAps} → none ≡ some x → ⊥
 none-some q = let z : ◌≡◌ {A = ℕ} 0 1 = cc in omega arith
 
 or_parts : (s t : Bool) → (s || t) ≡ false → (s ≡ false) × (t ≡ false)
@@ -48,23 +49,25 @@ or_parts true t e = (e, cc)
 or_parts false t e = (refl, e)
 
 held-note : (u : List ℕ) (room : ℕ) (b : Entries) → Held b → (v : Verdict) → verdict u room ≡ v → Held (note v b)
-held-note u room b h (accept x q) j = λ k i a e. go k i a (eqb k (kind_in x) && eqb i (id_in x)) refl e
+held-note u room b h (accept x q) j = λ k i a e. go k i a (eqb k (kind_in x.set) && eqb i (id_in x.set)) refl e
   where
-    go : (k i : ℕ) (a : VvcAps) (t : Bool) → (eqb k (kind_in x) && eqb i (id_in x)) ≡ t → cond t (some x) (b k i) ≡ some a → Came k i a
+    go : (k i : ℕ) (a : HeldAps) (t : Bool) → (eqb k (kind_in x.set) && eqb i (id_in x.set)) ≡ t → cond t (some x) (b k i) ≡ some a → Came k i a
     go k i a true p e =
         let d : x ≡ a = cc in
+        let (g, r) = accepted-read u room x q j in
         record {
           rbsp = rbsp_of u;
           end = q;
-          read = accepted-read u room x q j ∙ ap (λ (c : VvcAps). value c q) d;
-          kind-is = ap kind_in (sym d) ∙ sym (eqb-true k (kind_in x) (and_left _ _ p));
-          id-is = ap id_in (sym d) ∙ sym (eqb-true i (id_in x) (and_right (eqb k (kind_in x)) _ p));
+          read = r ∙ ap (λ (c : HeldAps). value c.set q) d;
+          header-is = ap (λ (c : HeldAps). is_aps_header c.header) (sym d) ∙ (headed u x.header g).aps;
+          kind-is = ap (λ (c : HeldAps). kind_in c.set) (sym d) ∙ sym (eqb-true k (kind_in x.set) (and_left _ _ p));
+          id-is = ap (λ (c : HeldAps). id_in c.set) (sym d) ∙ sym (eqb-true i (id_in x.set) (and_right (eqb k (kind_in x.set)) _ p));
         }
     go k i a false p e = h k i a e
 held-note u room b h pass j = h
 held-note u room b h (damage l m n) j = λ k i a e. go k i a (eqb k l && eqb i m) e
   where
-    go : (k i : ℕ) (a : VvcAps) (t : Bool) → cond t none (b k i) ≡ some a → Came k i a
+    go : (k i : ℕ) (a : HeldAps) (t : Bool) → cond t none (b k i) ≡ some a → Came k i a
     go k i a true e = absurd (none-some e)
     go k i a false e = h k i a e
 held-note u room b h (refuse n) j = h
@@ -93,7 +96,7 @@ held-book cs = held-enters cs no_entries (λ k i a e. absurd (none-some e))
 -- ---- entries put over others
 
 -- x with the entries that b has under the names
-abbrev fill : ℕ → ℕ → Option VvcAps → Entries → Entries
+abbrev fill : ℕ → ℕ → Option HeldAps → Entries → Entries
 fill k i none x = x
 fill k i (some a) x = replace k i (some a) x
 
@@ -101,12 +104,12 @@ over : List (ℕ × ℕ) → Entries → Entries → Entries
 over [] b x = x
 over (n ∷ ns) b x = over ns b (fill n.0 n.1 (b n.0 n.1) x)
 
-fill-same : (k i : ℕ) (o : Option VvcAps) (x : Entries) → (x k i ≡ o) ⊎ (x k i ≡ none) → fill k i o x k i ≡ o
+fill-same : (k i : ℕ) (o : Option HeldAps) (x : Entries) → (x k i ≡ o) ⊎ (x k i ≡ none) → fill k i o x k i ≡ o
 fill-same k i none x (inl e) = e
 fill-same k i none x (inr e) = e
 fill-same k i (some a) x h = rw (eq-eqb k k refl, eq-eqb i i refl)
 
-fill-other : (k i l j : ℕ) (o : Option VvcAps) (x : Entries) → (eqb l k && eqb j i) ≡ false → fill k i o x l j ≡ x l j
+fill-other : (k i l j : ℕ) (o : Option HeldAps) (x : Entries) → (eqb l k && eqb j i) ≡ false → fill k i o x l j ≡ x l j
 fill-other k i l j none x e = refl
 fill-other k i l j (some y) x e = rw e
 
@@ -179,7 +182,7 @@ list_of (n ∷ ns) b h f =
     go (b n.0 n.1) refl (or_parts (is_extended (b n.0 n.1)) (any_extended ns b) f).0
     (list_of ns b h (or_parts (is_extended (b n.0 n.1)) (any_extended ns b) f).1)
   where
-    go : (o : Option VvcAps) → b n.0 n.1 ≡ o → is_extended (b n.0 n.1) ≡ false → Listed ns b → Listed (n ∷ ns) b
+    go : (o : Option HeldAps) → b n.0 n.1 ≡ o → is_extended (b n.0 n.1) ≡ false → Listed ns b → Listed (n ∷ ns) b
     go none e g R = record {
       us = R.us;
       listed-is = rw (e, R.listed-is) (joined-value [] (framed R.us));
@@ -190,7 +193,7 @@ list_of (n ∷ ns) b h f =
     }
     go (some a) q g R =
         let H : Came n.0 n.1 a = h n.0 n.1 a q in
-        let W : Written a = unit-written H.rbsp a H.end H.read (rw q at g) in
+        let W : Written a = unit-written H.rbsp a H.end H.read H.header-is (rw q at g) in
         let s : 4 + length W.unit ≤ most_listed n.0 = rw H.kind-is at W.small in
         record {
           us = W.unit ∷ R.us;

@@ -9,10 +9,12 @@ use lib.ListN.{length, take, drop, replicate}
 use lib.Seq.{length-sets}
 use Rattle.bitstream.specs.Outcome.{Outcome, value, refused, ◌then◌}
 use Rattle.bitstream.specs.Escapes.{put_bytes}
-use Rattle.aps.specs.Kinds.{largest_id, most_bytes}
+use Rattle.aps.specs.Kinds.{largest_id}
 use Rattle.aps.specs.Unit.{rbsp_of}
+use Rattle.aps.specs.Writing.{header_bytes}
+use Rattle.aps.proofs.UnitSteps.{headed}
 use Rattle.aps.proofs.UnitWrites.{not-copied}
-use Rattle.aps_table.specs.Places.{named, names, place_at, table_bytes, new_table, Entries, kind_in, id_in, held, missing, found_in, lookup_in}
+use Rattle.aps_table.specs.Places.{named, names, place_at, place_size, table_bytes, new_table, Entries, kind_in, id_in, held, missing, found_in, lookup_in}
 use Rattle.aps_table.specs.Taking.{Verdict, accept, pass, damage, refuse, verdict, clear, put, take_unit, take_units}
 use Rattle.aps_table.specs.Calls.{Call, stream, alone, Answer, counted, counting, units_taken, after_units, table_after, answer_to}
 use Rattle.aps_table.specs.List.{any_extended, list_due, write_list}
@@ -26,16 +28,16 @@ use Rattle.aps_table.proofs.CutLaws.{held-book, ReadBack, read_back_lem}
 -- ---- the places follow the book
 
 put-note : (u : List ℕ) (room : ℕ) (t : List ℕ) → length t ≡ table_bytes → (v : Verdict) → verdict u room ≡ v → Agree (held (put v (rbsp_of u) t)) (note v (held t))
-put-note u room t h (accept a q) e = stored (rbsp_of u) a q (accepted-read u room a q e) t h
+put-note u room t h (accept x q) e = let (g, r) = accepted-read u room x q e in stored (rbsp_of u) x q r (headed u x.header g).aps t h
 put-note u room t h pass e = λ k i n. refl
 put-note u room t h (damage k i n) e = emptied k i (damaged-names u room e) t h
 put-note u room t h (refuse m) e = λ k i n. refl
 
 put-length : (v : Verdict) (r t : List ℕ) → length (put v r t) ≡ length t
 unfolding clear
-put-length (accept a q) r t = length-sets t (place_at (kind_in a) (id_in a)) (take ((q + 7) / 8) r)
+put-length (accept x q) r t = length-sets t (place_at (kind_in x.set) (id_in x.set)) (header_bytes x.header ++ take ((q + 7) / 8) r)
 put-length pass r t = refl
-put-length (damage k i n) r t = length-sets t (place_at k i) (replicate (most_bytes k) 0)
+put-length (damage k i n) r t = length-sets t (place_at k i) (replicate (place_size k) 0)
 put-length (refuse n) r t = refl
 
 unit-length : (room : ℕ) (u t : List ℕ) → length (take_unit room u t) ≡ length t

@@ -15,7 +15,7 @@ use Rattle.aps.specs.AlfSyntax.{ceil_log2, coefficient, luma_syntax, to_luma, fr
 use Rattle.aps.specs.ScalingSyntax.{diag_next, diag_scan, skipped, entries, max_id_delta, id_coded, step, sums, coefficients, entry_syntax, scaling_syntax, filled, keep, looked, look}
 use Rattle.aps.specs.ApsSyntax.{zero_alf, zero_lmcs, zero_scaling, payload, aps_syntax, to_aps, from_aps, aps}
 use Rattle.aps.specs.Rbsp.{closed, read_rbsp, rbsp_bits, rbsp_bytes}
-use Rattle.aps.specs.Unit.{admitted, parse_aps}
+use Rattle.aps.specs.Unit.{header_of, parse_nal_header, is_aps_header, zero_bits, unit_header, admitted, parse_aps}
 use Rattle.aps.specs.Writing.{bytes_due, rbsp_due, unit_of}
 use Rattle.aps_table.specs.Split.{Units, gap, split}
 use Rattle.aps_table.specs.Places.{named, kind_in, id_in, extended}
@@ -40,9 +40,9 @@ computed (lists cs o) = lists cs (list_due (book cs))
 abbrev pub example : List ℕ
 example = 0 ∷ 0 ∷ 0 ∷ 1 ∷ 0x00 ∷ 0x89 ∷ 0x20 ∷ 0x42 ∷ 0x12 ∷ 0 ∷ 0 ∷ 0 ∷ 1 ∷ 0x00 ∷ 0x91 ∷ 0x00 ∷ 0x10 ∷ []
 
--- ALF before LMCS, both of type 17
+-- ALF before LMCS, each with the header that it had
 abbrev pub example_list : List ℕ
-example_list = 0 ∷ 0 ∷ 0 ∷ 1 ∷ 0x00 ∷ 0x89 ∷ 0x00 ∷ 0x10 ∷ 0 ∷ 0 ∷ 0 ∷ 1 ∷ 0x00 ∷ 0x89 ∷ 0x20 ∷ 0x42 ∷ 0x12 ∷ []
+example_list = 0 ∷ 0 ∷ 0 ∷ 1 ∷ 0x00 ∷ 0x91 ∷ 0x00 ∷ 0x10 ∷ 0 ∷ 0 ∷ 0 ∷ 1 ∷ 0x00 ∷ 0x89 ∷ 0x20 ∷ 0x42 ∷ 0x12 ∷ []
 
 -- ALF set 0 as a unit
 abbrev pub alf_0 : List ℕ
@@ -81,9 +81,17 @@ rows =
     ∷ lists (alone alf_0 2 ∷ alone (0x00 ∷ 0x89 ∷ 0x00 ∷ []) 0 ∷ []) (value (0 ∷ 0 ∷ 0 ∷ 1 ∷ alf_0) 8)
     ∷ lists (alone alf_0 2 ∷ alone (0x00 ∷ 0x89 ∷ []) 0 ∷ []) (value (0 ∷ 0 ∷ 0 ∷ 1 ∷ alf_0) 8)
     ∷ lists (alone alf_0 2 ∷ alone (0x00 ∷ 0x89 ∷ 0x60 ∷ 0x00 ∷ []) 2 ∷ []) (value (0 ∷ 0 ∷ 0 ∷ 1 ∷ alf_0) 8)
+    ∷ answers (alone (0x80 ∷ 0x89 ∷ 0x00 ∷ 0x10 ∷ []) 2) (refusal 2)
+    ∷ answers (alone (0x40 ∷ 0x89 ∷ 0x00 ∷ 0x10 ∷ []) 2) (refusal 2)
+    ∷ answers (alone (0x38 ∷ 0x89 ∷ 0x00 ∷ 0x10 ∷ []) 0) (refusal 2)
+    ∷ answers (alone (0x00 ∷ 0x88 ∷ 0x00 ∷ 0x10 ∷ []) 0) (refusal 2)
+    ∷ answers (alone (0xFF ∷ 0x08 ∷ 0x00 ∷ 0x10 ∷ []) 0) passed
+    ∷ lists (alone (0x37 ∷ 0x97 ∷ 0x00 ∷ 0x10 ∷ []) 2 ∷ []) (value (0 ∷ 0 ∷ 0 ∷ 1 ∷ 0x37 ∷ 0x97 ∷ 0x00 ∷ 0x10 ∷ []) 8)
+    ∷ lists (alone alf_0 2 ∷ alone (0x01 ∷ 0x92 ∷ 0x00 ∷ 0x82 ∷ []) 2 ∷ []) (value (0 ∷ 0 ∷ 0 ∷ 1 ∷ 0x01 ∷ 0x92 ∷ 0x00 ∷ 0x82 ∷ []) 8)
+    ∷ lists (alone alf_0 2 ∷ alone (0x38 ∷ 0x89 ∷ 0x00 ∷ []) 1 ∷ []) (value (0 ∷ 0 ∷ 0 ∷ 1 ∷ alf_0) 8)
     ∷ []
 
 -- each row is as the definitions give it
 pub example-rows : map computed rows ≡ rows
-unfolding rows bit_at field_at field_bits put_in_byte put_bit put_bits pack read_u lacks zero_at zeros_at suffix_at ue_value ue_from read_ue ue_asked ue_zeros ue_bits se_value se_code trailing_value trailing_width trailing_bits read_trailing escape_from unescape_from put_bytes count_leading_zeros whole u ue ◌▷◌ via judged when each_from provided never flag ue_to se se_in signed apart flat in_range lmcs_syntax to_lmcs from_lmcs lmcs ceil_log2 coefficient luma_syntax to_luma from_luma luma alternative chroma_syntax to_chroma from_chroma chroma cc_syntax to_cc from_cc cc alf_syntax to_alf from_alf alf diag_next diag_scan skipped entries max_id_delta id_coded step sums coefficients entry_syntax scaling_syntax filled keep looked look zero_alf zero_lmcs zero_scaling payload aps_syntax to_aps from_aps aps closed read_rbsp rbsp_bits rbsp_bytes bytes_due rbsp_due gap is_passed named names_place refused_rbsp verdict admitted parse_aps tally units_taken kind_in id_in extended note_units enters entry_due unit_of listed any_extended list_due
+unfolding rows bit_at field_at field_bits put_in_byte put_bit put_bits pack read_u lacks zero_at zeros_at suffix_at ue_value ue_from read_ue ue_asked ue_zeros ue_bits se_value se_code trailing_value trailing_width trailing_bits read_trailing escape_from unescape_from put_bytes count_leading_zeros whole u ue ◌▷◌ via judged when each_from provided never flag ue_to se se_in signed apart flat in_range lmcs_syntax to_lmcs from_lmcs lmcs ceil_log2 coefficient luma_syntax to_luma from_luma luma alternative chroma_syntax to_chroma from_chroma chroma cc_syntax to_cc from_cc cc alf_syntax to_alf from_alf alf diag_next diag_scan skipped entries max_id_delta id_coded step sums coefficients entry_syntax scaling_syntax filled keep looked look zero_alf zero_lmcs zero_scaling payload aps_syntax to_aps from_aps aps closed read_rbsp rbsp_bits rbsp_bytes bytes_due rbsp_due gap is_passed named names_place refused_rbsp verdict header_of parse_nal_header is_aps_header zero_bits unit_header admitted parse_aps tally units_taken kind_in id_in extended note_units enters entry_due unit_of listed any_extended list_due
 example-rows = refl

@@ -8,6 +8,7 @@ pub mod HeldSteps
 pub mod ListLaws
 pub mod ListSteps
 pub mod PlaceSteps
+pub mod PlaceReads
 pub mod SplitLaws
 pub mod SplitTurns
 pub mod StoreLaws

@@ -14,13 +14,17 @@ use Rattle.bitstream.specs.Escapes.{put_bytes}
 use Rattle.bitstream.proofs.CodeLaws.{value-refused}
 use Rattle.bitstream.proofs.EscapeLaws.{escape-most}
 use Rattle.aps.specs.ApsSyntax.{number_of, aps}
-use Rattle.aps.specs.Rbsp.{read_rbsp, rbsp_bytes}
+use Rattle.aps.specs.Rbsp.{rbsp_bytes}
+use Rattle.aps.specs.Unit.{is_aps_header}
 use Rattle.aps.specs.declared.aps.VvcAps.{VvcAps}
+use Rattle.aps.specs.declared.unit_header.UnitHeader.{UnitHeader}
 use Rattle.aps.proofs.CodecLaws.{then-value}
 use Rattle.aps.proofs.RbspLaws.{rbsp-sound, rbsp-most}
 use Rattle.aps.specs.Writing.{bytes_due, rbsp_due, unit_of}
 use Rattle.aps.proofs.RbspWrites.{due-taken, taken-due}
-use Rattle.aps_table.specs.Places.{Entries, names, kind_in, id_in, extended, place_bytes, under, held}
+use Rattle.aps.proofs.UnitSteps.{headed}
+use Rattle.aps_table.proofs.PlaceReads.{place-parts}
+use Rattle.aps_table.specs.Places.{HeldAps, Entries, names, kind_in, id_in, extended, place_bytes, read_place, under, held}
 use Rattle.aps_table.specs.List.{coded, entry, entry_due, joined, listed, is_extended, any_extended, list_due, write_list}
 use Rattle.aps_table.specs.Inner.{most_listed}
 
@@ -45,52 +49,57 @@ joined-joined (refused e) p q = refl
 
 -- ---- a set held
 
--- it is of the place's kind, and the writer takes it
-pub held-some : (t : List ℕ) (k i : ℕ) (a : VvcAps) → held t k i ≡ some a → (kind_in a ≡ k) × (aps.ok a ≡ true)
+-- it is of the place's kind, and the writer takes it and its header
+pub held-some : (t : List ℕ) (k i : ℕ) (x : HeldAps) → held t k i ≡ some x → (kind_in x.set ≡ k) × (aps.ok x.set ≡ true) × (is_aps_header x.header ≡ true)
 unfolding held
-held-some t k i a = go (read_rbsp (place_bytes t k i)) refl
+held-some t k i x = go (read_place (place_bytes t k i)) refl
   where
-    same : (c : VvcAps) (x y : Bool) → eqb (kind_in c) k ≡ x → cond (x && y) (some c) none ≡ some a → (kind_in c ≡ k) × (c ≡ a)
+    same : (c : HeldAps) (v w : Bool) → eqb (kind_in c.set) k ≡ v → cond (v && w) (some c) none ≡ some x → (kind_in c.set ≡ k) × (c ≡ x)
     same c true true e h = (eqb-true _ _ e, cc)
     same c true false e h = let z : ◌≡◌ {A = ℕ} 0 1 = cc in absurd (omega arith)
-    same c false y e h = let z : ◌≡◌ {A = ℕ} 0 1 = cc in absurd (omega arith)
+    same c false w e h = let z : ◌≡◌ {A = ℕ} 0 1 = cc in absurd (omega arith)
 
-    go : (o : Outcome VvcAps) → read_rbsp (place_bytes t k i) ≡ o → under k i o ≡ some a → (kind_in a ≡ k) × (aps.ok a ≡ true)
+    go : (o : Outcome HeldAps) → read_place (place_bytes t k i) ≡ o → under k i o ≡ some x → (kind_in x.set ≡ k) × (aps.ok x.set ≡ true) × (is_aps_header x.header ≡ true)
     go (value c q) e h =
-        let (w, f) = same c (eqb (kind_in c) k) (eqb (id_in c) i) refl h in
-        (ap kind_in (sym f) ∙ w, (rbsp-sound (place_bytes t k i) a q (e ∙ ap (λ (d : VvcAps). value d q) f)).0)
+        let (w, f) = same c (eqb (kind_in c.set) k) (eqb (id_in c.set) i) refl h in
+        let s = place_bytes t k i in
+        let (g, r) = place-parts s x q (e ∙ ap (λ (d : HeldAps). value d q) f) in
+        (ap (λ (d : HeldAps). kind_in d.set) (sym f) ∙ w, (rbsp-sound (drop 2 s) x.set q r).0, (headed s x.header g).aps)
     go (refused n) e h = let z : ◌≡◌ {A = ℕ} 0 1 = cc in absurd (omega arith)
 
-module _ (a : VvcAps) where
+pub held-ok : (t : List ℕ) (k i : ℕ) (x : HeldAps) → held t k i ≡ some x → aps.ok x.set ≡ true
+held-ok t k i x e = let (w, o, g) = held-some t k i x e in o
+
+module _ (x : HeldAps) where
   -- with extension flag 1 its entry is refused
-  pub due-extended : extended a ≡ true → entry_due a ≡ refused 3
+  pub due-extended : extended x.set ≡ true → entry_due x ≡ refused 3
   unfolding extended entry_due bytes_due rbsp_due
-  due-extended x =
-      ap (λ (f : Bool). cond f (refused 3) (rbsp_due a) then λ bytes n. value (coded bytes) (length (coded bytes))) x
+  due-extended e =
+      ap (λ (f : Bool). cond f (refused 3) (rbsp_due x.set) then λ bytes n. value (coded x.header bytes) (length (coded x.header bytes))) e
 
   -- else it is the start code and the unit
-  pub due-plain : extended a ≡ false → aps.ok a ≡ true → entry_due a ≡ value (coded (rbsp_bytes a)) (length (coded (rbsp_bytes a)))
+  pub due-plain : extended x.set ≡ false → aps.ok x.set ≡ true → entry_due x ≡ value (coded x.header (rbsp_bytes x.set)) (length (coded x.header (rbsp_bytes x.set)))
   unfolding extended entry_due
-  due-plain x o = ap (λ (d : Outcome (List ℕ)). d then λ bytes n. value (coded bytes) (length (coded bytes))) (due-taken a x o)
+  due-plain e o = ap (λ (d : Outcome (List ℕ)). d then λ bytes n. value (coded x.header bytes) (length (coded x.header bytes))) (due-taken x.set e o)
 
 -- ---- 3 is the only refusal
 
-module _ (b : Entries) (sound : (k i : ℕ) (a : VvcAps) → b k i ≡ some a → aps.ok a ≡ true) where
+module _ (b : Entries) (sound : (k i : ℕ) (x : HeldAps) → b k i ≡ some x → aps.ok x.set ≡ true) where
   -- with a set of extension flag 1 among them, whatever stands before it
   listed-extended : (ns : List (ℕ × ℕ)) → any_extended ns b ≡ true → listed ns b ≡ refused 3
   unfolding any_extended listed
   listed-extended [] e = let z : ◌≡◌ {A = ℕ} 0 1 = cc in absurd (omega arith)
   listed-extended (n ∷ ns) e = go (b n.0 n.1) refl e (listed-extended ns)
     where
-      one : (a : VvcAps) → aps.ok a ≡ true → (x : Bool) → extended a ≡ x → (x || any_extended ns b) ≡ true → (any_extended ns b ≡ true → listed ns b ≡ refused 3)
+      one : (a : HeldAps) → aps.ok a.set ≡ true → (x : Bool) → extended a.set ≡ x → (x || any_extended ns b) ≡ true → (any_extended ns b ≡ true → listed ns b ≡ refused 3)
           → joined (entry_due a) (listed ns b) ≡ refused 3
       one a o true x e h = rw (due-extended a x)
       one a o false x e h = rw (due-plain a x o, h e)
 
-      go : (o : Option VvcAps) → b n.0 n.1 ≡ o → (is_extended o || any_extended ns b) ≡ true → (any_extended ns b ≡ true → listed ns b ≡ refused 3)
+      go : (o : Option HeldAps) → b n.0 n.1 ≡ o → (is_extended o || any_extended ns b) ≡ true → (any_extended ns b ≡ true → listed ns b ≡ refused 3)
           → joined (entry o) (listed ns b) ≡ refused 3
       go none f e h = rw (h e)
-      go (some a) f e h = one a (sound n.0 n.1 a f) (extended a) refl e h
+      go (some a) f e h = one a (sound n.0 n.1 a f) (extended a.set) refl e h
 
   -- without one they are bytes
   listed_plain : (ns : List (ℕ × ℕ)) → any_extended ns b ≡ false → (l : List ℕ) × (n : ℕ) × (listed ns b ≡ value l n)
@@ -98,19 +107,19 @@ module _ (b : Entries) (sound : (k i : ℕ) (a : VvcAps) → b k i ≡ some a �
   listed_plain [] e = ([], 0, refl)
   listed_plain (n ∷ ns) e = go (b n.0 n.1) refl e (listed_plain ns)
     where
-      one : (a : VvcAps) → aps.ok a ≡ true → (x : Bool) → extended a ≡ x → (x || any_extended ns b) ≡ false → (any_extended ns b ≡ false → (l : List ℕ) × (n : ℕ) × (listed ns b ≡ value l n))
+      one : (a : HeldAps) → aps.ok a.set ≡ true → (x : Bool) → extended a.set ≡ x → (x || any_extended ns b) ≡ false → (any_extended ns b ≡ false → (l : List ℕ) × (n : ℕ) × (listed ns b ≡ value l n))
           → (l : List ℕ) × (n : ℕ) × (joined (entry_due a) (listed ns b) ≡ value l n)
       one a o true x e h = absurd (false≢true (sym e))
       one a o false x e h =
           let (l, m, w) = h e in
-          (coded (rbsp_bytes a) ++ l, length (coded (rbsp_bytes a)) + m, rw (due-plain a x o, w))
+          (coded a.header (rbsp_bytes a.set) ++ l, length (coded a.header (rbsp_bytes a.set)) + m, rw (due-plain a x o, w))
 
-      go : (o : Option VvcAps) → b n.0 n.1 ≡ o → (is_extended o || any_extended ns b) ≡ false → (any_extended ns b ≡ false → (l : List ℕ) × (n : ℕ) × (listed ns b ≡ value l n))
+      go : (o : Option HeldAps) → b n.0 n.1 ≡ o → (is_extended o || any_extended ns b) ≡ false → (any_extended ns b ≡ false → (l : List ℕ) × (n : ℕ) × (listed ns b ≡ value l n))
           → (l : List ℕ) × (n : ℕ) × (joined (entry o) (listed ns b) ≡ value l n)
       go none f e h =
           let (l, m, w) = h e in
           (l, 0 + m, rw w)
-      go (some a) f e h = one a (sound n.0 n.1 a f) (extended a) refl e h
+      go (some a) f e h = one a (sound n.0 n.1 a f) (extended a.set) refl e h
 
 -- the list of a table is what its entries come to
 pub listed-due : (t : List ℕ) → listed names (held t) ≡ list_due (held t)
@@ -118,7 +127,7 @@ unfolding list_due
 listed-due t = go (any_extended names (held t)) refl
   where
     go : (x : Bool) → any_extended names (held t) ≡ x → listed names (held t) ≡ cond x (refused 3) (listed names (held t))
-    go true e = listed-extended (held t) (λ k i a h. (held-some t k i a h).1) names e
+    go true e = listed-extended (held t) (held-ok t) names e
     go false e = refl
 
 -- an output that is too short gives 5
@@ -138,22 +147,22 @@ list-never-2 t out = go (any_extended names (held t)) refl
     go : (x : Bool) → any_extended names (held t) ≡ x → (cond x (refused 3) (listed names (held t)) then λ l n. put_bytes out l) ≡ refused 2 → ⊥
     go true e f = let z : ◌≡◌ {A = ℕ} 3 2 = cc in omega arith
     go false e f =
-        let (l, n, w) = listed_plain (held t) (λ k i a h. (held-some t k i a h).1) names e in
+        let (l, n, w) = listed_plain (held t) (held-ok t) names e in
         put-never-2 out l (ap (λ (o : Outcome (List ℕ)). o then λ l n. put_bytes out l) (sym w) ∙ f)
 
 -- ---- the most bytes
 
 -- of a unit after its start code
-pub unit-most : (a : VvcAps) (l : List ℕ) (n : ℕ) → bytes_due a ≡ value l n → 4 + length (unit_of 17 l) ≤ most_listed (number_of a.kind)
+pub unit-most : (a : VvcAps) (h : UnitHeader) (l : List ℕ) (n : ℕ) → bytes_due a ≡ value l n → 4 + length (unit_of h l) ≤ most_listed (number_of a.kind)
 unfolding unit_of
-unit-most a l n e =
+unit-most a h l n e =
     let (x, o, w, m) = taken-due a l n e in
     omega (arith, escape-most l, rbsp-most a o, ap length w)
 
 -- of an entry
-pub entry-most : (a : VvcAps) (l : List ℕ) (n : ℕ) → entry_due a ≡ value l n → n ≤ most_listed (kind_in a)
+pub entry-most : (x : HeldAps) (l : List ℕ) (n : ℕ) → entry_due x ≡ value l n → n ≤ most_listed (kind_in x.set)
 unfolding entry_due kind_in
-entry-most a l n e =
-    let (k, m, d, w) = then-value (bytes_due a) (λ bytes n. value (coded bytes) (length (coded bytes))) e in
-    let v : length (coded k) ≡ n = cc in
-    omega (arith, v, unit-most a k m d)
+entry-most x l n e =
+    let (k, m, d, w) = then-value (bytes_due x.set) (λ bytes n. value (coded x.header bytes) (length (coded x.header bytes))) e in
+    let v : length (coded x.header k) ≡ n = cc in
+    omega (arith, v, unit-most x.set x.header k m d)

@@ -2,6 +2,7 @@
 use borrow.Author.Tests.{le-ltb}
 use borrow.Rule.Slice.PartMut.{mid_of, put_mid}
 use mathlib.Core.Path.{◌≡◌, refl, sym, ap, ◌∙◌}
+use mathlib.Core.Bool.{true}
 use mathlib.Core.List.{List, [], ◌∷◌, ◌++◌, append_assoc}
 use mathlib.Core.Option.{Option, none, some}
 use Prim.Native.Nat.{ℕ, suc, ◌+◌, ◌-◌, ◌*◌, ◌/◌, ◌≤◌}
@@ -14,9 +15,10 @@ use Rattle.bitstream.proofs.CodeLaws.{value-refused}
 use Rattle.bitstream.proofs.EscapeLaws.{escape-most}
 use Rattle.bitstream.proofs.WriteLaws.{wrote}
 use Rattle.aps.specs.Kinds.{most_bytes}
-use Rattle.aps.specs.declared.aps.VvcAps.{VvcAps}
+use Rattle.aps.specs.Unit.{is_aps_header}
+use Rattle.aps.specs.declared.unit_header.UnitHeader.{UnitHeader}
 use Rattle.aps.specs.Writing.{unit_of, write_nal}
-use Rattle.aps_table.specs.Places.{names, held, kind_in}
+use Rattle.aps_table.specs.Places.{HeldAps, names, held, kind_in}
 use Rattle.aps_table.specs.List.{coded, entry, entry_due, joined, listed, write_list}
 use Rattle.aps_table.specs.Inner.{so_far, most_listed}
 use Rattle.aps_table.specs.declared.list.CutList.{CutList}
@@ -30,10 +32,10 @@ abbrev with_code : List ℕ → ℕ → List ℕ → List ℕ
 with_code out p last =
     put_mid p (p + 4 - p) (put_mid (p + 4) (LIST_BYTES - (p + 4)) out last) (0 ∷ 0 ∷ 0 ∷ 1 ∷ [])
 
-module _ (out : List ℕ) (p : ℕ) (bytes : List ℕ) (size : length out ≡ LIST_BYTES) (h : (p + (6 + length bytes * 3 / 2) ≤ LIST_BYTES) × (length bytes ≤ most_bytes 2)) where
+module _ (out : List ℕ) (p : ℕ) (head : UnitHeader) (bytes : List ℕ) (size : length out ≡ LIST_BYTES) (h : (p + (6 + length bytes * 3 / 2) ≤ LIST_BYTES) × ((length bytes ≤ most_bytes 2) × (is_aps_header head ≡ true))) where
   -- the unit of the bytes
   abbrev unit : List ℕ
-  unit = unit_of 17 bytes
+  unit = unit_of head bytes
 
   -- the buffer after the start code
   abbrev rest : List ℕ
@@ -45,25 +47,25 @@ module _ (out : List ℕ) (p : ℕ) (bytes : List ℕ) (size : length out ≡ LI
   unit-small = omega (arith, h, escape-most bytes)
 
   -- it has room for the unit
-  unit-room : write_nal bytes 17 rest ≡ value (unit ++ drop (length unit) rest) (length unit)
+  unit-room : write_nal bytes head rest ≡ value (unit ++ drop (length unit) rest) (length unit)
   unfolding write_nal put_bytes
   unit-room =
       let m : length rest ≡ LIST_BYTES - (p + 4) = length-take-le (LIST_BYTES - (p + 4)) (drop (p + 4) out) (omega (arith, h, length-drop (p + 4) out)) in
-      rw (le-ltb 65536 (length bytes) (omega (arith, h)), le-ltb (length rest) (length unit) (omega (arith, h, unit-small)))
+      rw (h.1.1, le-ltb 65536 (length bytes) (omega (arith, h)), le-ltb (length rest) (length unit) (omega (arith, h, unit-small)))
 
   -- so no refusal comes
-  pub unit-refused : (n : ℕ) → refused n ≡ write_nal bytes 17 rest → ⊥
+  pub unit-refused : (n : ℕ) → refused n ≡ write_nal bytes head rest → ⊥
   unit-refused n f = value-refused (sym (f ∙ unit-room))
 
   -- it ends in the buffer
-  pub unit-within : (last : List ℕ) (n : ℕ) → value last n ≡ write_nal bytes 17 rest → p + 4 + n ≤ LIST_BYTES
+  pub unit-within : (last : List ℕ) (n : ℕ) → value last n ≡ write_nal bytes head rest → p + 4 + n ≤ LIST_BYTES
   unit-within last n f =
       let g = f ∙ unit-room in
       let k : n ≡ length unit = cc in
       omega (arith, h, unit-small)
 
   -- the start code stands before what was put
-  code_put : (more : List ℕ) → take (p + 4 + length unit) (with_code out p (unit ++ more)) ≡ take p out ++ coded bytes
+  code_put : (more : List ℕ) → take (p + 4 + length unit) (with_code out p (unit ++ more)) ≡ take p out ++ coded head bytes
   code_put more =
       let s : List ℕ = 0 ∷ 0 ∷ 0 ∷ 1 ∷ [] in
       let post : List ℕ = more ++ drop (LIST_BYTES - (p + 4)) (drop (p + 4) out) in
@@ -77,8 +79,8 @@ module _ (out : List ℕ) (p : ℕ) (bytes : List ℕ) (size : length out ≡ LI
       rw (append_assoc unit more (drop (LIST_BYTES - (p + 4)) (drop (p + 4) out)), e, drop-drop 4 p l, t, d, m, take-append-add (take p out) (s ++ (unit ++ post)) (suc (suc (suc (suc (length unit))))), take-append_seam unit post)
 
   -- the start code and the unit after it
-  pub unit-put : (last : List ℕ) (n : ℕ) → value last n ≡ write_nal bytes 17 rest
-      → value (take (p + 4 + n) (with_code out p last)) (p + 4 + n) ≡ joined (value (take p out) p) (value (coded bytes) (length (coded bytes)))
+  pub unit-put : (last : List ℕ) (n : ℕ) → value last n ≡ write_nal bytes head rest
+      → value (take (p + 4 + n) (with_code out p last)) (p + 4 + n) ≡ joined (value (take p out) p) (value (coded head bytes) (length (coded head bytes)))
   unit-put last n f =
       let g = f ∙ unit-room in
       let w : last ≡ unit ++ drop (length unit) rest = cc in
@@ -89,7 +91,7 @@ module _ (out : List ℕ) (p : ℕ) (bytes : List ℕ) (size : length out ≡ LI
 -- ---- a place
 
 -- the entry that was put has at most the place's bytes
-entry-within : (k p : ℕ) (b : Option VvcAps) (m l : List ℕ) (q : ℕ) → ((a : VvcAps) → b ≡ some a → kind_in a ≡ k) → value m q ≡ joined (value l p) (entry b) → q ≤ p + most_listed k
+entry-within : (k p : ℕ) (b : Option HeldAps) (m l : List ℕ) (q : ℕ) → ((x : HeldAps) → b ≡ some x → kind_in x.set ≡ k) → value m q ≡ joined (value l p) (entry b) → q ≤ p + most_listed k
 entry-within k p none m l q w e = let s : q ≡ p + 0 = cc in omega arith
 entry-within k p (some a) m l q w e = go (entry_due a) refl e
   where
@@ -135,7 +137,7 @@ module _ {t : List ℕ} {list : CutList} {index : ℕ} (L : Listing t list index
   -- it was put
   pub listing-next : (last : CutList) → so_far last ≡ joined (so_far list) (entry (held t n.0 n.1)) → Listing t last (index + 1)
   listing-next last e = record {
-    room-left = omega (arith, listing-room, entry-within n.0 list.len (held t n.0 n.1) _ _ last.len (λ a g. (held-some t n.0 n.1 a g).0) e);
+    room-left = omega (arith, listing-room, entry-within n.0 list.len (held t n.0 n.1) _ _ last.len (λ x g. (held-some t n.0 n.1 x g).0) e);
     whole = ap (λ (o : Outcome (List ℕ)). joined o (listed (drop (index + 1) names) (held t))) e ∙ next-whole;
   }
 

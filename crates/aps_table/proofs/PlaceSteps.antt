@@ -1,5 +1,6 @@
 -- The places of the table: where each stands, bytes put into it and taken out of it, and the set that it holds.
 use borrow.Author.Tests.{leb-true, leb-false, lt-ltb, le-leb, le-ltb, lt-leb}
+use borrow.Rule.Slice.PartMut.{put_mid}
 use mathlib.Core.Path.{◌≡◌, refl, sym, ap, ◌∙◌}
 use mathlib.Core.Bool.{Bool, true, false, ◌&&◌, and-false}
 use mathlib.Core.List.{List, [], ◌∷◌, ◌++◌, append-nil, append_assoc}
@@ -9,19 +10,20 @@ use native.Mathlib.Nat.{add-zero, zero-add}
 use native.Mathlib.Numerals.{add-one}
 use native.Mathlib.Omega.{arith}
 use lib.Dec.{leb, ltb, eqb}
-use lib.ListN.{length, get_or, take, drop, length-take, get_or-eq_default}
-use lib.Seq.{sets, sets-eq, drop-drop, get_or-take, get_or-drop}
-use Rattle.bitstream.specs.Outcome.{Outcome, value}
+use lib.ListN.{length, get_or, set, take, drop, length-take, length-drop, get_or-eq_default}
+use lib.Seq.{sets, sets-eq, length-sets, drop-drop, length-take-le, get_or-take, get_or-drop}
+use Rattle.bitstream.specs.Outcome.{Outcome, value, map_outcome}
 use Rattle.bitstream.proofs.KeepLaws.{Bytes}
 use Rattle.aps.specs.Kinds.{largest_id, most_bytes}
 use Rattle.aps.specs.ApsSyntax.{number_of}
-use Rattle.aps.specs.Rbsp.{read_rbsp}
 use Rattle.aps.specs.declared.aps.VvcAps.{VvcAps}
 use Rattle.aps.specs.declared.aps.ApsKind.{ApsKind}
 use Rattle.aps.specs.contracts.aps.ApsKind.{the_type}
 use denote.Enum.Bare.{sameb}
 use Rattle.std.proofs.Common.{rules}
-use Rattle.aps_table.specs.Places.{Names, named, ids, names, place_at, table_bytes, place_bytes, kind_in, id_in, under, held, missing, found_in, lookup_in, looked_up}
+use Rattle.std.proofs.lemmas.List.{length-set}
+use Rattle.aps.specs.declared.unit_header.UnitHeader.{UnitHeader}
+use Rattle.aps_table.specs.Places.{with_header, Names, named, ids, names, place_at, place_size, table_bytes, place_bytes, kind_in, id_in, under, held, missing, found_in, lookup_in, looked_up}
 
 -- ---- where they stand
 
@@ -53,7 +55,7 @@ unfolding named
 over-named k i h = rw (lt-leb i (largest_id k) h, and-false (ltb k 3))
 
 -- a place is within the table, and no larger than a scaling set's
-pub place-within : (k i : ℕ) → Names k i → (place_at k i + most_bytes k ≤ table_bytes) × (most_bytes k ≤ most_bytes 2)
+pub place-within : (k i : ℕ) → Names k i → (place_at k i + place_size k ≤ table_bytes) × (most_bytes k ≤ most_bytes 2)
 place-within zero i (h, l) = (omega arith, omega arith)
 place-within (suc zero) i (h, l) = (omega arith, omega arith)
 place-within (suc (suc k)) i (h, l) = (omega arith, omega arith)
@@ -61,10 +63,10 @@ place-within (suc (suc k)) i (h, l) = (omega arith, omega arith)
 -- ---- bytes read from it
 
 -- a part of the table from where a place begins to where it ends is the place's bytes
-pub place-part : (table : List ℕ) (k i n base : ℕ) → n ≡ most_bytes k → base ≡ place_at k i → take (base + n - base) (drop base table) ≡ place_bytes table k i
+pub place-part : (table : List ℕ) (k i n base : ℕ) → n ≡ place_size k → base ≡ place_at k i → take (base + n - base) (drop base table) ≡ place_bytes table k i
 unfolding place_bytes
 place-part table k i n base s a =
-    let m : base + n - base ≡ most_bytes k = omega arith in
+    let m : base + n - base ≡ place_size k = omega arith in
     rw (m, a)
 
 -- bytes stored from where it begins on
@@ -74,34 +76,60 @@ stored table bytes base i e h =
     let n : base + length bytes - base ≡ length bytes = omega arith in
     rw (n, e, drop-drop (length bytes) i table) (sym (sets-eq bytes table i h ∙ append_assoc (take i table) bytes (drop (i + length bytes) table)))
 
--- no more than a set of its kind takes
-pub place-most : (table : List ℕ) (k i : ℕ) → Names k i → length (place_bytes table k i) ≤ most_bytes k
-unfolding place_bytes
-place-most table k i h = omega (arith, length-take (most_bytes k) (drop (place_at k i) table))
+-- and others behind them
+stored_behind : (table first second : List ℕ) (i : ℕ) → i + length first + length second ≤ length table
+    → sets (sets table i first) (i + length first) second ≡ sets table i (first ++ second)
+stored_behind table [] second i h = rw add-zero
+stored_behind table (b ∷ first) second i h =
+    let e : i + suc (length first) ≡ suc i + length first = omega arith in
+    rw e (stored_behind (set table i b) first second (suc i) (omega (arith, length-set table i b)))
 
--- bytes that are a place's are few
-pub place-few : (table bytes : List ℕ) (k i : ℕ) → Names k i → bytes ≡ place_bytes table k i → (length bytes ≤ most_bytes k) × (length bytes ≤ most_bytes 2)
-place-few table bytes k i h e = rw e (place-most table k i h, omega (arith, place-most table k i h, (place-within k i h).1))
+-- a header stored and an RBSP behind it
+pub stored-both : (table header rbsp : List ℕ) (base i : ℕ) → base ≡ i → length header ≡ 2 → i + 2 + length rbsp ≤ length table
+    → put_mid (base + 2) (base + 2 + length rbsp - (base + 2)) (put_mid base (base + 2 - base) table header) rbsp ≡ sets table i (header ++ rbsp)
+stored-both table header rbsp base i e n h =
+    let f : put_mid base (base + length header - base) table header ≡ sets table i header = stored table header base i e (omega (arith, n, h)) in
+    let g : put_mid base (base + 2 - base) table header ≡ sets table i header = rw n at f in
+    let s : put_mid (base + 2) (base + 2 + length rbsp - (base + 2)) (sets table i header) rbsp ≡ sets (sets table i header) (i + 2) rbsp
+    = stored (sets table i header) rbsp (base + 2) (i + 2) (omega (arith, e)) (omega (arith, h, length-sets table i header)) in
+    let b : sets (sets table i header) (i + length header) rbsp ≡ sets table i (header ++ rbsp) = stored_behind table header rbsp i (omega (arith, n, h)) in
+    rw g (s ∙ rw n at b)
+
+-- no more than a header and a set of its kind take
+pub place-most : (table : List ℕ) (k i : ℕ) → Names k i → length (place_bytes table k i) ≤ place_size k
+unfolding place_bytes
+place-most table k i h = omega (arith, length-take (place_size k) (drop (place_at k i) table))
+
+-- of a table they are all that
+pub place-length : (table : List ℕ) (k i : ℕ) → Names k i → length table ≡ table_bytes → length (place_bytes table k i) ≡ place_size k
+unfolding place_bytes
+place-length table k i h l =
+    length-take-le (place_size k) (drop (place_at k i) table) (omega (arith, l, (place-within k i h).0, length-drop (place_at k i) table))
+
+-- those of its RBSP are few
+pub place-few : (table bytes : List ℕ) (k i : ℕ) → Names k i → bytes ≡ drop 2 (place_bytes table k i) → (length bytes ≤ most_bytes k) × (length bytes ≤ most_bytes 2)
+place-few table bytes k i h e =
+    let m : length (drop 2 (place_bytes table k i)) ≤ most_bytes k = omega (arith, place-most table k i h, length-drop 2 (place_bytes table k i)) in
+    rw e (m, omega (arith, m, (place-within k i h).1))
 
 -- and bytes
-pub place-bytes : (table : List ℕ) (k i : ℕ) → Bytes table → Bytes (place_bytes table k i)
+place-bytes : (table : List ℕ) (k i : ℕ) → Bytes table → Bytes (place_bytes table k i)
 unfolding place_bytes
-place-bytes table k i h j = go (leb (suc j) (most_bytes k)) refl
+place-bytes table k i h j = go (leb (suc j) (place_size k)) refl
   where
     l : List ℕ
     l = drop (place_at k i) table
 
-    go : (b : Bool) → leb (suc j) (most_bytes k) ≡ b → get_or (take (most_bytes k) l) j 0 < 256
-    go true e = omega (arith, get_or-take (most_bytes k) l j 0 (leb-true _ _ e), get_or-drop (place_at k i) table j 0, h (place_at k i + j))
+    go : (b : Bool) → leb (suc j) (place_size k) ≡ b → get_or (take (place_size k) l) j 0 < 256
+    go true e = omega (arith, get_or-take (place_size k) l j 0 (leb-true _ _ e), get_or-drop (place_at k i) table j 0, h (place_at k i + j))
     go false e =
-        let n = leb-false (suc j) (most_bytes k) e in
-        let d : get_or (take (most_bytes k) l) j 0 ≡ 0 = get_or-eq_default (take (most_bytes k) l) 0 (omega (arith, n, length-take (most_bytes k) l)) in
+        let n = leb-false (suc j) (place_size k) e in
+        let d : get_or (take (place_size k) l) j 0 ≡ 0 = get_or-eq_default (take (place_size k) l) 0 (omega (arith, n, length-take (place_size k) l)) in
         omega (arith, d)
 
--- what they are read as tells what it holds
-pub held-read : (table bytes : List ℕ) (k i : ℕ) → bytes ≡ place_bytes table k i → held table k i ≡ under k i (read_rbsp bytes)
-unfolding held
-held-read table bytes k i e = rw e
+-- those of its RBSP too
+pub place-rest : (table : List ℕ) (k i : ℕ) → Bytes table → Bytes (drop 2 (place_bytes table k i))
+place-rest table k i h j = omega (arith, get_or-drop 2 (place_bytes table k i) j 0, place-bytes table k i h (2 + j))
 
 -- ---- the set that a place holds
 
@@ -109,16 +137,16 @@ held-read table bytes k i e = rw e
 same-kind : (x y : ApsKind) → sameb the_type x y ≡ eqb (number_of x) (number_of y)
 same-kind x y = search rules
 
-module _ (kind : ApsKind) (i : ℕ) (a : VvcAps) {q : ℕ} {o : Outcome VvcAps} (e : o ≡ value a q) {b : Bool} (f : b ≡ (sameb the_type a.kind kind && eqb a.aps_adaptation_parameter_set_id i)) where
+module _ (kind : ApsKind) (i : ℕ) (h : UnitHeader) (a : VvcAps) {q : ℕ} {o : Outcome VvcAps} (e : o ≡ value a q) {b : Bool} (f : b ≡ (sameb the_type a.kind kind && eqb a.aps_adaptation_parameter_set_id i)) where
   -- a place with a set of another kind or id is empty
-  pub under-other : b ≡ false → under (number_of kind) i o ≡ none
+  pub under-other : b ≡ false → under (number_of kind) i (map_outcome (with_header h) o) ≡ none
   unfolding kind_in id_in
-  under-other h = ap (under (number_of kind) i) e ∙ rw (← same-kind a.kind kind, ← f, h)
+  under-other g = ap (λ (r : Outcome VvcAps). under (number_of kind) i (map_outcome (with_header h) r)) e ∙ rw (← same-kind a.kind kind, ← f, g)
 
   -- a set of its own is held
-  pub under-own : b ≡ true → under (number_of kind) i o ≡ some a
+  pub under-own : b ≡ true → under (number_of kind) i (map_outcome (with_header h) o) ≡ some (with_header h a)
   unfolding kind_in id_in
-  under-own h = ap (under (number_of kind) i) e ∙ rw (← same-kind a.kind kind, ← f, h)
+  under-own g = ap (λ (r : Outcome VvcAps). under (number_of kind) i (map_outcome (with_header h) r)) e ∙ rw (← same-kind a.kind kind, ← f, g)
 
 module _ (table : List ℕ) (k i : ℕ) where
   -- with a kind and an id that name no place nothing is looked up

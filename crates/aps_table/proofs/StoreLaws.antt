@@ -8,18 +8,22 @@ use Prim.Native.Nat.{ℕ, zero, suc, ◌+◌, ◌-◌, ◌/◌, ◌≤◌, ◌<�
 use native.Mathlib.Omega.{arith}
 use borrow.Author.Tests.{eqb-true, eq-eqb, leb-true, leb-false}
 use lib.Dec.{eqb, leb}
-use lib.ListN.{length, get_or, set, take, drop, replicate, length-take, get_or-eq_default, length-replicate}
-use lib.Seq.{sets, sets-eq, take-set-le, drop-set-lt, drop-set-add, drop_at, take_at, length-take-le, get_or-take, get_or-drop}
+use lib.ListN.{length, get_or, set, take, drop, take-append-drop, replicate, length-take, get_or-eq_default, length-replicate}
+use lib.Seq.{sets, sets-eq, take-set-le, drop-set-lt, drop-set-add, drop_at, take_at, take-take, length-take-le, get_or-take, get_or-drop}
 use Rattle.bitstream.specs.Outcome.{Outcome, value, refused}
 use Rattle.aps.specs.Kinds.{most_bytes}
 use Rattle.aps.specs.Rbsp.{read_rbsp}
+use Rattle.aps.specs.Unit.{is_aps_header, unit_header}
+use Rattle.aps.specs.Writing.{header_bytes}
 use Rattle.aps.specs.declared.aps.VvcAps.{VvcAps}
 use Rattle.aps.proofs.RbspLaws.{rbsp-id, rbsp-end, read-most}
-use Rattle.aps.proofs.LocalLaws.{zeros-none, rbsp-copy}
-use Rattle.aps_table.specs.Places.{Names, place_at, table_bytes, place_bytes, new_table, kind_in, id_in, under, held}
+use Rattle.aps.proofs.LocalLaws.{rbsp-copy}
+use Rattle.aps.proofs.UnitSteps.{headed-bytes}
+use Rattle.aps_table.specs.Places.{HeldAps, Names, place_at, place_size, table_bytes, place_bytes, new_table, kind_in, id_in, read_place, under, held}
 use Rattle.aps_table.specs.Taking.{clear}
 use Rattle.aps_table.specs.Book.{replace}
-use Rattle.aps_table.proofs.PlaceSteps.{names-of, place-within}
+use Rattle.aps_table.proofs.PlaceReads.{header-and-set, zeros-under}
+use Rattle.aps_table.proofs.PlaceSteps.{names-of, place-within, place-most}
 
 -- ---- bytes stored
 
@@ -61,7 +65,7 @@ either_way i j d = go (leb i j) refl
 
 -- two places have no byte in common
 Apart : ℕ → ℕ → ℕ → ℕ → Type 0
-Apart k i l j = (place_at l j + most_bytes l ≤ place_at k i) ⊎ (place_at k i + most_bytes k ≤ place_at l j)
+Apart k i l j = (place_at l j + place_size l ≤ place_at k i) ⊎ (place_at k i + place_size k ≤ place_at l j)
 
 same_kind : (k i j : ℕ) → (j < i) ⊎ (i < j) → Apart k i k j
 unfolding Apart
@@ -85,24 +89,33 @@ places-apart (suc (suc k)) i (suc zero) j n m d = inl (omega arith)
 places-apart (suc (suc k)) i (suc (suc l)) j n m d = same_kind 2 i j (either_way i j (λ q. d (omega arith, q)))
 
 -- bytes stored at one place leave every other as it was
-place_other : (t bytes : List ℕ) (k i l j : ℕ) → Names k i → Names l j → ((k ≡ l) × (i ≡ j) → ⊥) → length bytes ≤ most_bytes k
+place_other : (t bytes : List ℕ) (k i l j : ℕ) → Names k i → Names l j → ((k ≡ l) × (i ≡ j) → ⊥) → length bytes ≤ place_size k
     → place_bytes (sets t (place_at k i) bytes) l j ≡ place_bytes t l j
 unfolding place_bytes Apart
 place_other t bytes k i l j n m d h = by (places-apart k i l j n m d)
   where
-    by : Apart k i l j → take (most_bytes l) (drop (place_at l j) (sets t (place_at k i) bytes)) ≡ take (most_bytes l) (drop (place_at l j) t)
-    by (inl e) = window-before bytes t (place_at k i) (place_at l j) (most_bytes l) e
-    by (inr e) = ap (take (most_bytes l)) (window-behind bytes t (place_at k i) (place_at l j) (omega arith))
+    by : Apart k i l j → take (place_size l) (drop (place_at l j) (sets t (place_at k i) bytes)) ≡ take (place_size l) (drop (place_at l j) t)
+    by (inl e) = window-before bytes t (place_at k i) (place_at l j) (place_size l) e
+    by (inr e) = ap (take (place_size l)) (window-behind bytes t (place_at k i) (place_at l j) (omega arith))
 
 -- and stand at their own
-place-own : (t bytes : List ℕ) (k i : ℕ) → Names k i → length t ≡ table_bytes → length bytes ≤ most_bytes k
+place-own : (t bytes : List ℕ) (k i : ℕ) → Names k i → length t ≡ table_bytes → length bytes ≤ place_size k
     → (n : ℕ) → n < length bytes → get_or (place_bytes (sets t (place_at k i) bytes) k i) n 0 ≡ get_or bytes n 0
 unfolding place_bytes
 place-own t bytes k i m e h n l =
     let p = place_at k i in
     let x = drop p (sets t p bytes) in
-    get_or-take (most_bytes k) x n 0 (omega arith) ∙ sym (get_or-take (length bytes) x n 0 l)
+    get_or-take (place_size k) x n 0 (omega arith) ∙ sym (get_or-take (length bytes) x n 0 l)
     ∙ ap (λ (v : List ℕ). get_or v n 0) (window-at bytes t p (omega (arith, (place-within k i m).0)))
+
+-- their first ones too
+place-begins : (t bytes : List ℕ) (k i n : ℕ) → Names k i → length t ≡ table_bytes → length bytes ≤ place_size k → n ≤ length bytes
+    → take n (place_bytes (sets t (place_at k i) bytes) k i) ≡ take n bytes
+unfolding place_bytes
+place-begins t bytes k i n m e h l =
+    let p = place_at k i in
+    let x = drop p (sets t p bytes) in
+    take-take n (place_size k) x (omega arith) ∙ sym (take-take n (length bytes) x l) ∙ ap (take n) (window-at bytes t p (omega (arith, (place-within k i m).0)))
 
 -- ---- sets
 
@@ -116,34 +129,62 @@ module _ (r : List ℕ) (a : VvcAps) (q : ℕ) (e : read_rbsp r ≡ value a q) w
   unfolding kind_in
   read_fits = omega (arith, read-most r a q e, length-take-le ((q + 7) / 8) r (omega (arith, rbsp-end r a q e)))
 
-  -- its place holds it
-  stored-own : (t : List ℕ) → length t ≡ table_bytes → held (sets t (place_at (kind_in a) (id_in a)) (take ((q + 7) / 8) r)) (kind_in a) (id_in a) ≡ some a
-  unfolding held
-  stored-own t h =
-      let n = (q + 7) / 8 in
-      let k = kind_in a in
-      let i = id_in a in
-      let l : length (take n r) ≡ n = length-take-le n r (omega (arith, rbsp-end r a q e)) in
-      let s = place_bytes (sets t (place_at k i) (take n r)) k i in
-      let c : read_rbsp s ≡ value a q
-      = rbsp-copy r a q e s (λ j m. place-own t (take n r) k i read_names h read_fits j (omega (arith, l)) ∙ get_or-take n r j 0 (omega arith)) in
-      ap (under k i) c ∙ rw (eq-eqb k k refl, eq-eqb i i refl)
+-- a header and a set that was read
+module _ (r : List ℕ) (x : HeldAps) (q : ℕ) (e : read_rbsp r ≡ value x.set q) (g : is_aps_header x.header ≡ true) where
+  k : ℕ
+  k = kind_in x.set
 
-  stored_other : (t : List ℕ) (l j : ℕ) → Names l j → ((kind_in a ≡ l) × (id_in a ≡ j) → ⊥)
-      → held (sets t (place_at (kind_in a) (id_in a)) (take ((q + 7) / 8) r)) l j ≡ held t l j
+  i : ℕ
+  i = id_in x.set
+
+  -- their bytes
+  unfoldable bytes : List ℕ
+  bytes = header_bytes x.header ++ take ((q + 7) / 8) r
+
+  bytes-length : length bytes ≡ 2 + (q + 7) / 8
+  unfolding bytes
+  bytes-length = omega (arith, length-take-le ((q + 7) / 8) r (omega (arith, rbsp-end r x.set q e)))
+
+  bytes-rest : (j : ℕ) → get_or bytes (2 + j) 0 ≡ get_or (take ((q + 7) / 8) r) j 0
+  unfolding bytes
+  bytes-rest j = sym (get_or-drop 2 bytes j 0)
+
+  bytes-fit : length bytes ≤ place_size k
+  unfolding bytes k
+  bytes-fit = omega (arith, read_fits r x.set q e)
+
+  names-it : Names k i
+  unfolding k i
+  names-it = read_names r x.set q e
+
+  -- its place holds them
+  stored-own : (t : List ℕ) → length t ≡ table_bytes → held (sets t (place_at k i) bytes) k i ≡ some x
+  unfolding held bytes k i
+  stored-own t h =
+      let s = place_bytes (sets t (place_at k i) bytes) k i in
+      let b : take 2 s ≡ header_bytes x.header = place-begins t bytes k i 2 names-it h bytes-fit (omega (arith, bytes-length)) in
+      let w : header_bytes x.header ++ drop 2 s ≡ s = ap (λ (l : List ℕ). l ++ drop 2 s) (sym b) ∙ take-append-drop 2 s in
+      let l : length (header_bytes x.header ++ drop 2 s) ≤ 65536 = omega (arith, ap length w, place-most (sets t (place_at k i) bytes) k i names-it, (place-within k i names-it).1) in
+      let f : unit_header s ≡ value x.header 16 = ap unit_header (sym w) ∙ headed-bytes x.header (drop 2 s) g l in
+      let c : read_rbsp (drop 2 s) ≡ value x.set q
+      = rbsp-copy r x.set q e (drop 2 s)
+      (λ j m. get_or-drop 2 s j 0 ∙ place-own t bytes k i names-it h bytes-fit (2 + j) (omega (arith, bytes-length)) ∙ bytes-rest j ∙ get_or-take ((q + 7) / 8) r j 0 (omega arith)) in
+      ap (under k i) (header-and-set s x q f c) ∙ rw (eq-eqb k k refl, eq-eqb i i refl)
+
+  stored_other : (t : List ℕ) (l j : ℕ) → Names l j → ((k ≡ l) × (i ≡ j) → ⊥) → held (sets t (place_at k i) bytes) l j ≡ held t l j
   unfolding held
-  stored_other t l j m d = ap (λ (s : List ℕ). under l j (read_rbsp s)) (place_other t (take ((q + 7) / 8) r) (kind_in a) (id_in a) l j read_names m d read_fits)
+  stored_other t l j m d = ap (λ (s : List ℕ). under l j (read_place s)) (place_other t bytes k i l j names-it m d bytes-fit)
 
   -- an accepted set replaces its place, and no other
   pub stored : (t : List ℕ) → length t ≡ table_bytes → (l j : ℕ) → Names l j
-      → held (sets t (place_at (kind_in a) (id_in a)) (take ((q + 7) / 8) r)) l j ≡ replace (kind_in a) (id_in a) (some a) (held t) l j
-  stored t h l j m = go (eqb l (kind_in a)) (eqb j (id_in a)) refl refl
+      → held (sets t (place_at (kind_in x.set) (id_in x.set)) (header_bytes x.header ++ take ((q + 7) / 8) r)) l j ≡ replace (kind_in x.set) (id_in x.set) (some x) (held t) l j
+  unfolding bytes k i
+  stored t h l j m = go (eqb l k) (eqb j i) refl refl
     where
-      go : (b c : Bool) → eqb l (kind_in a) ≡ b → eqb j (id_in a) ≡ c
-          → held (sets t (place_at (kind_in a) (id_in a)) (take ((q + 7) / 8) r)) l j ≡ cond (b && c) (some a) (held t l j)
-      go true true x y = rw (eqb-true l (kind_in a) x, eqb-true j (id_in a) y) (stored-own t h)
-      go true false x y = stored_other t l j m (λ s. false≢true (sym y ∙ eq-eqb j (id_in a) (sym s.1)))
-      go false c x y = stored_other t l j m (λ s. false≢true (sym x ∙ eq-eqb l (kind_in a) (sym s.0)))
+      go : (b c : Bool) → eqb l k ≡ b → eqb j i ≡ c → held (sets t (place_at k i) bytes) l j ≡ cond (b && c) (some x) (held t l j)
+      go true true y z = rw (eqb-true l k y, eqb-true j i z) (stored-own t h)
+      go true false y z = stored_other t l j m (λ s. false≢true (sym z ∙ eq-eqb j i (sym s.1)))
+      go false c y z = stored_other t l j m (λ s. false≢true (sym y ∙ eq-eqb l k (sym s.0)))
 
 -- ---- the new table
 
@@ -158,56 +199,48 @@ zeros-at (suc m) (suc n) = zeros-at m n
 
 new-zero : (k i n : ℕ) → get_or (place_bytes new_table k i) n 0 ≡ 0
 unfolding place_bytes new_table
-new-zero k i n = go (leb (suc n) (most_bytes k)) refl
+new-zero k i n = go (leb (suc n) (place_size k)) refl
   where
     x : List ℕ
     x = drop (place_at k i) (replicate table_bytes 0)
 
-    go : (b : Bool) → leb (suc n) (most_bytes k) ≡ b → get_or (take (most_bytes k) x) n 0 ≡ 0
-    go true e = get_or-take (most_bytes k) x n 0 (omega (arith, leb-true (suc n) (most_bytes k) e)) ∙ get_or-drop (place_at k i) (replicate table_bytes 0) n 0 ∙ zeros-at table_bytes (place_at k i + n)
-    go false e = get_or-eq_default (take (most_bytes k) x) 0 (omega (arith, leb-false (suc n) (most_bytes k) e, length-take (most_bytes k) x))
+    go : (b : Bool) → leb (suc n) (place_size k) ≡ b → get_or (take (place_size k) x) n 0 ≡ 0
+    go true e = get_or-take (place_size k) x n 0 (omega (arith, leb-true (suc n) (place_size k) e)) ∙ get_or-drop (place_at k i) (replicate table_bytes 0) n 0 ∙ zeros-at table_bytes (place_at k i + n)
+    go false e = get_or-eq_default (take (place_size k) x) 0 (omega (arith, leb-false (suc n) (place_size k) e, length-take (place_size k) x))
 
 -- each place of a new table is empty
 pub new_none : (k i : ℕ) → held new_table k i ≡ none
 unfolding held
-new_none k i = go (read_rbsp (place_bytes new_table k i)) refl
-  where
-    go : (o : Outcome VvcAps) → read_rbsp (place_bytes new_table k i) ≡ o → under k i o ≡ none
-    go (value a q) e = absurd (zeros-none (place_bytes new_table k i) a q e (new-zero k i))
-    go (refused n) e = refl
+new_none k i = zeros-under (place_bytes new_table k i) k i (new-zero k i)
 
 -- ---- an emptied place
 
 module _ (k i : ℕ) (m : Names k i) (t : List ℕ) (h : length t ≡ table_bytes) where
   zeros : List ℕ
-  zeros = replicate (most_bytes k) 0
+  zeros = replicate (place_size k) 0
 
-  size : length zeros ≡ most_bytes k
+  size : length zeros ≡ place_size k
   unfolding zeros
-  size = length-replicate {A = ℕ} (most_bytes k) 0
+  size = length-replicate {A = ℕ} (place_size k) 0
 
   -- its bytes are zeros
   cleared-zero : (n : ℕ) → get_or (place_bytes (clear k i t) k i) n 0 ≡ 0
   unfolding clear place_bytes zeros
-  cleared-zero n = go (leb (suc n) (most_bytes k)) refl
+  cleared-zero n = go (leb (suc n) (place_size k)) refl
     where
-      go : (b : Bool) → leb (suc n) (most_bytes k) ≡ b → get_or (take (most_bytes k) (drop (place_at k i) (sets t (place_at k i) (replicate (most_bytes k) 0)))) n 0 ≡ 0
-      go true e = place-own t (replicate (most_bytes k) 0) k i m h (omega (arith, size)) n (omega (arith, size, leb-true (suc n) (most_bytes k) e)) ∙ zeros-at (most_bytes k) n
+      go : (b : Bool) → leb (suc n) (place_size k) ≡ b → get_or (take (place_size k) (drop (place_at k i) (sets t (place_at k i) (replicate (place_size k) 0)))) n 0 ≡ 0
+      go true e = place-own t (replicate (place_size k) 0) k i m h (omega (arith, size)) n (omega (arith, size, leb-true (suc n) (place_size k) e)) ∙ zeros-at (place_size k) n
       go false e =
-          let x = drop (place_at k i) (sets t (place_at k i) (replicate (most_bytes k) 0)) in
-          get_or-eq_default (take (most_bytes k) x) 0 (omega (arith, leb-false (suc n) (most_bytes k) e, length-take (most_bytes k) x))
+          let x = drop (place_at k i) (sets t (place_at k i) (replicate (place_size k) 0)) in
+          get_or-eq_default (take (place_size k) x) 0 (omega (arith, leb-false (suc n) (place_size k) e, length-take (place_size k) x))
 
   cleared-none : held (clear k i t) k i ≡ none
   unfolding held
-  cleared-none = go (read_rbsp (place_bytes (clear k i t) k i)) refl
-    where
-      go : (o : Outcome VvcAps) → read_rbsp (place_bytes (clear k i t) k i) ≡ o → under k i o ≡ none
-      go (value a q) e = absurd (zeros-none (place_bytes (clear k i t) k i) a q e cleared-zero)
-      go (refused n) e = refl
+  cleared-none = zeros-under (place_bytes (clear k i t) k i) k i cleared-zero
 
   cleared_other : (l j : ℕ) → Names l j → ((k ≡ l) × (i ≡ j) → ⊥) → held (clear k i t) l j ≡ held t l j
   unfolding held clear zeros
-  cleared_other l j n d = ap (λ (s : List ℕ). under l j (read_rbsp s)) (place_other t zeros k i l j m n d (omega (arith, size)))
+  cleared_other l j n d = ap (λ (s : List ℕ). under l j (read_place s)) (place_other t zeros k i l j m n d (omega (arith, size)))
 
   -- it is empty, and every other place as it was
   pub emptied : (l j : ℕ) → Names l j → held (clear k i t) l j ≡ replace k i none (held t) l j

@@ -11,7 +11,8 @@ use lib.Seq.{sets, take-append-le}
 use Rattle.bitstream.specs.Outcome.{value, refused}
 use Rattle.aps.specs.ApsSyntax.{number_of}
 use Rattle.aps.specs.Rbsp.{read_rbsp}
-use Rattle.aps.specs.Unit.{is_aps, rbsp_of, header_of, parse_nal_header, admitted, parse_aps, work_after}
+use Rattle.aps.specs.Unit.{is_aps, rbsp_of, header_of, parse_nal_header, is_aps_header, unit_header, admitted, parse_aps, work_after}
+use Rattle.aps.specs.declared.unit_header.UnitHeader.{UnitHeader}
 use Rattle.aps.specs.Kinds.{largest_id, most_bytes}
 use Rattle.aps.specs.Reading.{head_of}
 use Rattle.aps.specs.declared.aps.ApsHead.{ApsHead}
@@ -19,14 +20,14 @@ use Rattle.aps.specs.declared.aps.VvcAps.{VvcAps}
 use Rattle.bitstream.proofs.CodeLaws.{value-refused}
 use Rattle.aps.proofs.CodecLaws.{then-value, and_left, and_right}
 use Rattle.aps.proofs.RbspLaws.{rbsp-end, read-most}
-use Rattle.aps.proofs.UnitSteps.{unit-refused}
+use Rattle.aps.proofs.UnitSteps.{headed, not-admitted, unit-refused}
 use Rattle.aps_table.specs.Places.{place_at, kind_in, id_in}
 use Rattle.aps_table.specs.Inner.{names_damaged}
 use Rattle.aps_table.specs.Taking.{is_passed, verdict, clear, take_unit}
 use Rattle.aps_table.specs.Calls.{accepted, passed, refusal, single}
 use Rattle.aps_table.proofs.PlaceSteps.{place-within}
 use Rattle.aps_table.proofs.StoreLaws.{read_names, read_fits}
-use Rattle.aps_table.proofs.VerdictLaws.{accepted-unit, refused-verdict}
+use Rattle.aps_table.proofs.VerdictLaws.{accepted-unit, refused-verdict, header-verdict}
 
 -- ---- passed over
 
@@ -45,7 +46,7 @@ no-header u {n} = go (ltb 65536 (length u)) (ltb (length u) 2) refl refl
 module _ (u w t : List ℕ) (p : is_passed u ≡ true) where
   -- its header is refused
   judged-passed : admitted u (length w) ≡ refused 2
-  unfolding is_passed admitted
+  unfolding is_passed admitted unit_header parse_nal_header header_of is_aps_header
   judged-passed =
       let a = leb (length u) 65536 in
       let b = leb 2 (length u) in
@@ -60,16 +61,24 @@ module _ (u w t : List ℕ) (p : is_passed u ≡ true) where
 
 -- ---- refused or accepted
 
-module _ (u w t : List ℕ) (p : is_passed u ≡ false) (n : ℕ) (e : parse_aps u (length w) ≡ refused n) where
+module _ (u w t : List ℕ) (p : is_passed u ≡ false) where
+  -- a refused header changes nothing
+  pub header-refuses : (n : ℕ) → unit_header u ≡ refused n → (refusal n ≡ single (verdict u (length w))) × ((t ≡ take_unit (length w) u t) × (w ≡ work_after u w))
+  unfolding take_unit
+  header-refuses n e =
+      let v = header-verdict u (length w) n p e in
+      (rw v, (rw v, sym (unit-refused u w n (not-admitted u (length w) n e)).1))
+
+module _ (u w t : List ℕ) (p : is_passed u ≡ false) (h : UnitHeader) (f : unit_header u ≡ value h 16) (n : ℕ) (e : parse_aps u (length w) ≡ refused n) where
   -- a refused unit leaves the table
   pub refuses : names_damaged u n ≡ false → (refusal n ≡ single (verdict u (length w))) × (t ≡ take_unit (length w) u t)
   unfolding take_unit
-  refuses d = let v = refused-verdict u (length w) n p e in (rw (v, d), rw (v, d))
+  refuses d = let v = refused-verdict u (length w) n h p f e in (rw (v, d), rw (v, d))
 
   -- but a damaged one empties the place that it names
   pub empties : names_damaged u n ≡ true → (refusal n ≡ single (verdict u (length w))) × (clear (get_or u 2 0 / 32) (get_or u 2 0 % 32) t ≡ take_unit (length w) u t)
   unfolding take_unit
-  empties d = let v = refused-verdict u (length w) n p e in (rw (v, d), rw (v, d))
+  empties d = let v = refused-verdict u (length w) n h p f e in (rw (v, d), rw (v, d))
 
 module _ (u w : List ℕ) (a : VvcAps) (q : ℕ) (e : parse_aps u (length w) ≡ value a q) where
   -- the set is its RBSP's, which starts the work buffer
@@ -109,9 +118,9 @@ module _ (u w : List ℕ) (a : VvcAps) (q : ℕ) (e : parse_aps u (length w) ≡
       bytes_fit = rw (g, bytes_read) (read_fits (rbsp_of u) a q unit-set.0)
 
       -- an accepted unit replaces its place
-      pub stores : (t : List ℕ) → is_passed u ≡ false
-          → (accepted ≡ single (verdict u (length w))) × (sets t (place_at (number_of h.kind) h.aps_adaptation_parameter_set_id) (take ((q + 7) / 8) v) ≡ take_unit (length w) u t)
+      pub stores : (t : List ℕ) → is_passed u ≡ false → (k : UnitHeader) → unit_header u ≡ value k 16
+          → (accepted ≡ single (verdict u (length w))) × (sets t (place_at (number_of h.kind) h.aps_adaptation_parameter_set_id) (take 2 u ++ take ((q + 7) / 8) v) ≡ take_unit (length w) u t)
       unfolding take_unit kind_in id_in
-      stores t p =
-          let y = accepted-unit u (length w) p a q e in
-          (sym (ap single y), rw (y, g, bytes_read))
+      stores t p k f =
+          let y = accepted-unit u (length w) p k a q f e in
+          (sym (ap single y), rw (y, g, bytes_read, (headed u k f).bytes))

@@ -2,7 +2,7 @@
 use mathlib.Core.Path.{◌≡◌, refl, sym, ap, ◌∙◌}
 use mathlib.Core.Bool.{Bool, true, false, ◌&&◌}
 use mathlib.Core.List.{List, [], ◌∷◌, append-nil}
-use Prim.Native.Nat.{ℕ, zero, suc, ◌+◌, ◌-◌, ◌*◌, ◌≤◌}
+use Prim.Native.Nat.{ℕ, zero, suc, ◌+◌, ◌-◌, ◌*◌, ◌/◌, ◌≤◌}
 use native.Mathlib.Omega.{arith}
 use lib.Dec.{leb}
 use lib.ListN.{length}
@@ -11,12 +11,14 @@ use Rattle.bitstream.specs.Escapes.{escape, zeros_at_end, Clean}
 use Rattle.bitstream.proofs.EscapeLaws.{none-at-end, escape-clean, escape-trailing}
 use Rattle.aps.specs.ApsSyntax.{aps, inferred}
 use Rattle.aps.specs.Rbsp.{read_rbsp, rbsp_bytes}
-use Rattle.aps.specs.Unit.{parse_aps}
+use Rattle.aps.specs.Unit.{is_aps_header, parse_aps}
+use Rattle.aps.specs.declared.unit_header.UnitHeader.{UnitHeader}
 use Rattle.aps.specs.declared.aps.VvcAps.{VvcAps}
 use Rattle.aps.proofs.RbspLaws.{rbsp-sound, write_read, rbsp-some, rbsp-last}
 use Rattle.aps.specs.Writing.{unit_of}
-use Rattle.aps.proofs.RoundTrips.{unit-parsed}
-use Rattle.aps_table.specs.Places.{kind_in, extended}
+use Rattle.aps.proofs.UnitSteps.{aps-within, aps-type}
+use Rattle.aps.proofs.RoundTrips.{unit-headed, unit-parsed}
+use Rattle.aps_table.specs.Places.{HeldAps, kind_in, extended}
 use Rattle.aps_table.specs.Taking.{accept, is_passed, verdict}
 use Rattle.aps_table.specs.List.{entry_due}
 use Rattle.aps_table.specs.Inner.{most_listed}
@@ -30,13 +32,24 @@ most-of-all zero = omega arith
 most-of-all (suc zero) = omega arith
 most-of-all (suc (suc k)) = omega arith
 
--- a unit of type 17 around bytes that do not end in 00
-unit-fit : (l : List ℕ) → zeros_at_end 0 l ≡ 0 → Fit (unit_of 17 l)
-unfolding unit_of Clean zeros_at_end
-unit-fit l h = record {
-  clean = (λ g. absurd (omega arith), (λ g. absurd (omega arith), escape-clean 0 l));
-  whole = escape-trailing l h;
-}
+-- a header's second byte tells its type and is not small
+second-byte : (h : UnitHeader) → is_aps_header h ≡ true → (n : ℕ) × (h.nal_unit_type * 8 + h.nuh_temporal_id_plus1 ≡ suc n) × (3 ≤ suc n) × ((h.nal_unit_type * 8 + h.nuh_temporal_id_plus1) / 8 ≡ h.nal_unit_type)
+second-byte h a =
+    let (s, t, l, i, j) = aps-within h a in
+    let b = h.nal_unit_type * 8 + h.nuh_temporal_id_plus1 in
+    (b - 1, omega arith, omega arith, omega arith)
+
+-- two bytes of which the second is not small before bytes that do not end in 00
+two-fit : (b c : ℕ) (l : List ℕ) → 3 ≤ suc c → Clean 0 l → zeros_at_end 0 l ≡ 0 → Fit (b ∷ suc c ∷ l)
+unfolding Clean zeros_at_end
+two-fit b c l h k e = record { clean = (λ g. absurd (omega arith), (λ g. h, k)); whole = e }
+
+-- the unit of a header around such bytes
+unit-fit : (h : UnitHeader) (l : List ℕ) → is_aps_header h ≡ true → zeros_at_end 0 l ≡ 0 → Fit (unit_of h l)
+unfolding unit_of
+unit-fit h l a e =
+    let (n, s, m, w) = second-byte h a in
+    rw s (two-fit h.nuh_layer_id n (escape l) m (escape-clean 0 l) (escape-trailing l e))
 
 -- it is not passed over
 never-passed : (b c : Bool) → (b && (c && false)) ≡ false
@@ -44,55 +57,58 @@ never-passed true true = refl
 never-passed true false = refl
 never-passed false c = refl
 
-unit-passed : (l : List ℕ) → is_passed (unit_of 17 l) ≡ false
+unit-passed : (h : UnitHeader) (l : List ℕ) → is_aps_header h ≡ true → is_passed (unit_of h l) ≡ false
 unfolding is_passed unit_of
-unit-passed l = never-passed (leb (suc (suc (length (escape l)))) 65536) (leb 2 (suc (suc (length (escape l)))))
+unit-passed h l a =
+    let (n, s, m, w) = second-byte h a in
+    rw (w, aps-type h a) (never-passed (leb (suc (suc (length (escape l)))) 65536) (leb 2 (suc (suc (length (escape l))))))
 
--- what the list needs of a set
-pub record Written (a : VvcAps) : Type 0 where
+-- what the list needs of a set and its header
+pub record Written (x : HeldAps) : Type 0 where
   pub unit : List ℕ
-  pub due : entry_due a ≡ value (0 ∷ 0 ∷ 0 ∷ 1 ∷ unit) (length (0 ∷ 0 ∷ 0 ∷ 1 ∷ unit))
+  pub due : entry_due x ≡ value (0 ∷ 0 ∷ 0 ∷ 1 ∷ unit) (length (0 ∷ 0 ∷ 0 ∷ 1 ∷ unit))
   pub fit : Fit unit
-  pub small : 4 + length unit ≤ most_listed (kind_in a)
+  pub small : 4 + length unit ≤ most_listed (kind_in x.set)
   pub end : ℕ
-  pub back : (room : ℕ) → length unit ≤ room → verdict unit room ≡ accept a end
+  pub back : (room : ℕ) → length unit ≤ room → verdict unit room ≡ accept x end
 
-module _ (r : List ℕ) (a : VvcAps) (q : ℕ) (e : read_rbsp r ≡ value a q) (x : extended a ≡ false) where
-  sound : (aps.ok a ≡ true) × (inferred a ≡ a)
-  sound = rbsp-sound r a q e
+module _ (r : List ℕ) (x : HeldAps) (q : ℕ) (e : read_rbsp r ≡ value x.set q) (g : is_aps_header x.header ≡ true) (f : extended x.set ≡ false) where
+  sound : (aps.ok x.set ≡ true) × (inferred x.set ≡ x.set)
+  sound = rbsp-sound r x.set q e
 
-  plain : a.aps_extension_flag ≡ false
+  plain : x.set.aps_extension_flag ≡ false
   unfolding extended
-  plain = x
+  plain = f
 
-  whole : zeros_at_end 0 (rbsp_bytes a) ≡ 0
+  whole : zeros_at_end 0 (rbsp_bytes x.set) ≡ 0
   whole =
-      let n = length (rbsp_bytes a) - 1 in
-      let s : length (rbsp_bytes a) ≡ suc n = omega (arith, rbsp-some a sound.0) in
-      none-at-end 0 (rbsp_bytes a) n s (rbsp-last a sound.0 n s)
+      let n = length (rbsp_bytes x.set) - 1 in
+      let s : length (rbsp_bytes x.set) ≡ suc n = omega (arith, rbsp-some x.set sound.0) in
+      none-at-end 0 (rbsp_bytes x.set) n s (rbsp-last x.set sound.0 n s)
 
-  entry-due : entry_due a ≡ value (0 ∷ 0 ∷ 0 ∷ 1 ∷ unit_of 17 (rbsp_bytes a)) (length (0 ∷ 0 ∷ 0 ∷ 1 ∷ unit_of 17 (rbsp_bytes a)))
-  entry-due = due-plain a x sound.0
+  entry-due : entry_due x ≡ value (0 ∷ 0 ∷ 0 ∷ 1 ∷ unit_of x.header (rbsp_bytes x.set)) (length (0 ∷ 0 ∷ 0 ∷ 1 ∷ unit_of x.header (rbsp_bytes x.set)))
+  entry-due = due-plain x f sound.0
 
-  unit-small : 4 + length (unit_of 17 (rbsp_bytes a)) ≤ most_listed (kind_in a)
+  unit-small : 4 + length (unit_of x.header (rbsp_bytes x.set)) ≤ most_listed (kind_in x.set)
   unfolding kind_in
-  unit-small = omega (arith, entry-most a _ _ entry-due)
+  unit-small = omega (arith, entry-most x _ _ entry-due)
 
-  unit-back : (room : ℕ) → length (unit_of 17 (rbsp_bytes a)) ≤ room → verdict (unit_of 17 (rbsp_bytes a)) room ≡ accept a (8 * length (rbsp_bytes a))
+  unit-back : (room : ℕ) → length (unit_of x.header (rbsp_bytes x.set)) ≤ room → verdict (unit_of x.header (rbsp_bytes x.set)) room ≡ accept x (8 * length (rbsp_bytes x.set))
   unit-back room h =
-      let l = rbsp_bytes a in
-      let p : parse_aps (unit_of 17 l) room ≡ read_rbsp l
-      = unit-parsed 17 l room refl (omega (arith, unit-small, most-of-all (kind_in a))) (omega arith) in
-      let b : read_rbsp l ≡ value a (8 * length l)
-      = ap read_rbsp (sym (append-nil l)) ∙ write_read a sound.0 plain [] ∙ ap (λ (c : VvcAps). value c (8 * length l)) sound.1 in
-      accepted-unit (unit_of 17 l) room (unit-passed l) a (8 * length l) (p ∙ b)
+      let l = rbsp_bytes x.set in
+      let u = unit_of x.header l in
+      let m : length u ≤ 65536 = omega (arith, unit-small, most-of-all (kind_in x.set)) in
+      let p : parse_aps u room ≡ read_rbsp l = unit-parsed x.header l room g m (omega arith) in
+      let b : read_rbsp l ≡ value x.set (8 * length l)
+      = ap read_rbsp (sym (append-nil l)) ∙ write_read x.set sound.0 plain [] ∙ ap (λ (c : VvcAps). value c (8 * length l)) sound.1 in
+      accepted-unit u room (unit-passed x.header l g) x.header x.set (8 * length l) (unit-headed x.header l g m) (p ∙ b)
 
-  pub unit-written : Written a
+  pub unit-written : Written x
   unit-written = record {
-    unit = unit_of 17 (rbsp_bytes a);
+    unit = unit_of x.header (rbsp_bytes x.set);
     due = entry-due;
-    fit = unit-fit (rbsp_bytes a) whole;
+    fit = unit-fit x.header (rbsp_bytes x.set) g whole;
     small = unit-small;
-    end = 8 * length (rbsp_bytes a);
+    end = 8 * length (rbsp_bytes x.set);
     back = unit-back;
   }

@@ -2,11 +2,9 @@
 use Rattle.std.specs.Prelude.{ℕ, Result, Ok, Err}
 use Rattle.bitstream.specs.Outcome.{number}
 use Rattle.bitstream.specs.declared.Refusal.{Refusal}
-use Rattle.aps.specs.declared.aps.ApsHead.{ApsHead}
 use Rattle.aps.specs.declared.aps.VvcAps.{VvcAps}
-use Rattle.aps.specs.declared.payload.ApsOf.{ApsOf}
-use Rattle.aps.specs.Reading.{head_of, part_by}
-use Rattle.aps_table.specs.Places.{Looked, found, missing}
+use Rattle.aps_table.specs.Places.{HeldAps, Looked, found, missing}
+use Rattle.aps_table.specs.declared.held_set.HeldSet.{HeldSet}
 use Rattle.aps_table.specs.Calls.{Answer, counted, accepted, passed, refusal}
 use Rattle.aps_table.specs.declared.table.Counts.{Counts}
 use Rattle.aps_table.specs.declared.table.Taken.{Taken}
@@ -21,25 +19,16 @@ abbrev pub stream_answer : Result Counts Refusal → Answer
 stream_answer (Ok c) = counted c
 stream_answer (Err e) = refusal (number e)
 
-abbrev pub lookup_answer : Result VvcAps Refusal → Looked
-lookup_answer (Ok a) = found a
+abbrev pub lookup_answer : Result HeldAps Refusal → Looked
+lookup_answer (Ok x) = found x
 lookup_answer (Err e) = missing (number e)
 
--- of a lookup's answer the head of the set, or the refusal's number
-abbrev pub head_looked : Looked → Result ApsHead ℕ
-head_looked (found a) = Ok (head_of a)
-head_looked (missing n) = Err n
+-- of a lookup's answer the header and what is made of the set, or the refusal's number
+module _ {T : Type 0} where
+  abbrev pub looked_by : (VvcAps → T) → Looked → Result (HeldSet T) ℕ
+  looked_by of (found x) = Ok (record { header = x.header; set = of x.set })
+  looked_by of (missing n) = Err n
 
-abbrev pub head_answer : Result ApsHead Refusal → Result ApsHead ℕ
-head_answer (Ok h) = Ok h
-head_answer (Err e) = Err (number e)
-
-module _ {P : Type 0} where
-  -- the set with one part of it alone
-  abbrev pub payload_looked : (VvcAps → P) → Looked → Result (ApsOf P) ℕ
-  payload_looked part (found a) = Ok (part_by part a)
-  payload_looked part (missing n) = Err n
-
-  abbrev pub payload_answer : Result (ApsOf P) Refusal → Result (ApsOf P) ℕ
-  payload_answer (Ok a) = Ok a
-  payload_answer (Err e) = Err (number e)
+  abbrev pub looked_answer : Result (HeldSet T) Refusal → Result (HeldSet T) ℕ
+  looked_answer (Ok x) = Ok x
+  looked_answer (Err e) = Err (number e)

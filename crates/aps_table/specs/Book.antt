@@ -1,21 +1,20 @@
--- The book, what is in force: an entry for each kind and id, replaced at each unit accepted for it and removed at each damaged one. It is fed by the calls alone.
+-- The book, what is in force: an entry for each kind and id, a set with its unit's header, replaced at each unit accepted for it and removed at each damaged one. It is fed by the calls alone.
 use Rattle.std.specs.Prelude.{ℕ, cond, ◌&&◌, List, [], ◌∷◌, eqb}
 use Rattle.std.proofs.Math.Option.{Option, none, some}
 use Rattle.bitstream.specs.Outcome.{Outcome, value, refused}
-use Rattle.aps.specs.declared.aps.VvcAps.{VvcAps}
-use Rattle.aps_table.specs.Places.{Entries, kind_in, id_in}
+use Rattle.aps_table.specs.Places.{HeldAps, Entries, kind_in, id_in}
 use Rattle.aps_table.specs.Taking.{Verdict, accept, pass, damage, refuse, verdict}
 use Rattle.aps_table.specs.Calls.{Call, stream, alone, units_taken}
 
 abbrev pub no_entries : Entries
 no_entries k i = none
 
-abbrev pub replace : ℕ → ℕ → Option VvcAps → Entries → Entries
+abbrev pub replace : ℕ → ℕ → Option HeldAps → Entries → Entries
 replace k i o b l j = cond (eqb l k && eqb j i) o (b l j)
 
 -- a unit: the set read replaces the entry of its kind and id, a damaged one removes the entry that it names; one passed over or refused otherwise changes nothing
 abbrev pub note : Verdict → Entries → Entries
-note (accept a q) b = replace (kind_in a) (id_in a) (some a) b
+note (accept x q) b = replace (kind_in x.set) (id_in x.set) (some x) b
 note pass b = b
 note (damage k i n) b = replace k i none b
 note (refuse n) b = b
@@ -43,12 +42,12 @@ book cs = enters cs no_entries
 
 -- ---- the same by the last unit that named a place
 
--- a unit that names a place: its kind and id, and the set accepted for it, or none where it was damaged
+-- a unit that names a place: its kind and id, and what was accepted for it, or none where it was damaged
 abbrev pub Naming : Type 0
-Naming = (ℕ × ℕ) × Option VvcAps
+Naming = (ℕ × ℕ) × Option HeldAps
 
 abbrev pub naming : Verdict → List Naming → List Naming
-naming (accept a q) l = ((kind_in a, id_in a), some a) ∷ l
+naming (accept x q) l = ((kind_in x.set, id_in x.set), some x) ∷ l
 naming pass l = l
 naming (damage k i n) l = ((k, i), none) ∷ l
 naming (refuse n) l = l
@@ -71,12 +70,12 @@ namings [] = []
 namings (c ∷ cs) = naming_call c (namings cs)
 
 -- what those that name kind k and id i gave
-unfoldable pub of_place : ℕ → ℕ → List Naming → List (Option VvcAps)
+unfoldable pub of_place : ℕ → ℕ → List Naming → List (Option HeldAps)
 of_place k i [] = []
 of_place k i (e ∷ l) = cond (eqb k e.0.0 && eqb i e.0.1) (e.1 ∷ of_place k i l) (of_place k i l)
 
 -- the last of them, or none
-unfoldable pub last : List (Option VvcAps) → Option VvcAps
+unfoldable pub last : List (Option HeldAps) → Option HeldAps
 last [] = none
 last (o ∷ []) = o
 last (o ∷ p ∷ l) = last (p ∷ l)

@@ -40,7 +40,7 @@ table_after (alone u room) t = take_unit room u t
 -- ---- the answer
 
 abbrev pub single : Verdict → Answer
-single (accept a q) = accepted
+single (accept x q) = accepted
 single pass = passed
 single (damage k i n) = refusal n
 single (refuse n) = refusal n

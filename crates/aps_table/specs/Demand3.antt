@@ -2,8 +2,7 @@
 use Rattle.std.specs.Prelude.{ℕ, ◌≤◌, ◌<◌, ◌≡◌, true, false, List, [], ◌∷◌, ◌++◌, length, drop}
 use Rattle.std.proofs.Math.Option.{some}
 use Rattle.bitstream.specs.Outcome.{value, refused}
-use Rattle.aps.specs.declared.aps.VvcAps.{VvcAps}
-use Rattle.aps_table.specs.Places.{Names, new_table, extended, held, filled, lookup_in, looked_up}
+use Rattle.aps_table.specs.Places.{HeldAps, Names, new_table, extended, held, filled, lookup_in, looked_up}
 use Rattle.aps_table.specs.Calls.{Call, stream, Answer, counted, refusal, table_after, answer_to}
 use Rattle.aps_table.specs.List.{list_due, write_list}
 use Rattle.aps_table.specs.Book.{book, last_named}
@@ -21,7 +20,7 @@ says (c ∷ cs) t = answer_to c ∷ says cs (table_after c t)
 abbrev pub after : List Call → List ℕ
 after cs = runs cs new_table
 
--- alike: the lookup of each of the 20 kinds and ids answers the same from both
+-- alike: the lookup of each of the 20 kinds and ids answers the same from both, a set with its header or a refusal
 abbrev pub Alike : List ℕ → List ℕ → Type 0
 Alike t u = (k i : ℕ) → Names k i → looked_up t k i ≡ looked_up u k i
 
@@ -41,7 +40,7 @@ pub record Cut (cs : List Call) (l : List ℕ) : Type 0 where
   pub no-work : (n : ℕ) → n < length l → (answer_to (stream l n) ≡ refusal 5) × (read_back l n ≡ new_table)
   -- with a long enough one every unit of it is accepted: as many as places are filled
   pub accepted : (n : ℕ) → length l ≤ n → answer_to (stream l n) ≡ counted (record { accepted = filled (held (after cs)); refused = 0; passed = 0 })
-  -- and each lookup then gives the set of the last unit that named the place, if it was accepted, or 6
+  -- and each lookup then gives the set and the header of the last unit that named the place, if it was accepted, or 6
   pub looks : (n : ℕ) → length l ≤ n → (k i : ℕ) → looked_up (read_back l n) k i ≡ lookup_in (last_named cs) k i
   pub alike : (n : ℕ) → length l ≤ n → Alike (after cs) (read_back l n)
   -- and whatever calls follow, both tables give the same answers and go on alike
@@ -49,11 +48,11 @@ pub record Cut (cs : List Call) (l : List ℕ) : Type 0 where
       → (says ds (after cs) ≡ says ds (read_back l n)) × Alike (runs ds (after cs)) (runs ds (read_back l n))
 
 pub record Demand3 (cs : List Call) : Type 0 where
-  -- the book holds for each kind and id the set of the last unit that named them, if it was accepted
+  -- the book holds for each kind and id the set and the header of the last unit that named them, if it was accepted
   pub in-force : (k i : ℕ) → book cs k i ≡ last_named cs k i
-  -- and the lookup gives it, or 6
+  -- and the lookup gives them, or 6
   pub looks : (k i : ℕ) → looked_up (after cs) k i ≡ lookup_in (last_named cs) k i
   -- a set in force with extension flag 1: the list is refused with 3
-  pub extended-3 : (k i : ℕ) (a : VvcAps) → Names k i → last_named cs k i ≡ some a → extended a ≡ true → (out : List ℕ) → write_list (after cs) out ≡ refused 3
+  pub extended-3 : (k i : ℕ) (x : HeldAps) → Names k i → last_named cs k i ≡ some x → extended x.set ≡ true → (out : List ℕ) → write_list (after cs) out ≡ refused 3
   -- none: the cut
-  pub cut : ((k i : ℕ) (a : VvcAps) → Names k i → last_named cs k i ≡ some a → extended a ≡ false) → (l : List ℕ) × Cut cs l
+  pub cut : ((k i : ℕ) (x : HeldAps) → Names k i → last_named cs k i ≡ some x → extended x.set ≡ false) → (l : List ℕ) × Cut cs l

@@ -9,8 +9,10 @@ use Rattle.aps.specs.Rbsp.{read_rbsp}
 use Rattle.aps.specs.Reading.{head_of}
 use Rattle.aps.specs.declared.aps.ApsHead.{ApsHead}
 use Rattle.aps.specs.declared.aps.Reading.{Reading}
-use Rattle.aps.specs.declared.aps.VvcAps.{VvcAps}
-use Rattle.aps_table.specs.Places.{named, held, place_bytes}
+use Rattle.aps.specs.Unit.{unit_header}
+use Rattle.aps.specs.declared.unit_header.UnitHeader.{UnitHeader}
+use Rattle.aps_table.specs.Places.{HeldAps, named, held, place_bytes}
+use Rattle.aps_table.specs.declared.held_set.HeldSet.{HeldSet}
 use Rattle.aps_table.specs.declared.list.CutList.{CutList}
 use Rattle.aps_table.specs.declared.split.Unit.{Unit as Next}
 use Rattle.aps_table.specs.Split.{Units, prepend, ended, gap, body}
@@ -81,16 +83,22 @@ units_of (some us) = us
 
 -- ---- the set of a place
 
--- the set that a place holds, by its head and the bit where it ends
-pub record Owns (t : List ℕ) (k i : ℕ) (r : Reading ApsHead) : Type 0 where
-  pub from : VvcAps
-  pub held-is : held t k i ≡ some from
-  pub read : read_rbsp (place_bytes t k i) ≡ value from r.end
-  pub is : r.value ≡ head_of from
+-- the header of an APS unit that a place begins with, or that it begins with none
+abbrev pub Heads : List ℕ → Option UnitHeader → Type 0
+Heads s (Some h) = unit_header s ≡ value h 16
+Heads s None = (n : ℕ) × (unit_header s ≡ refused n)
 
-abbrev pub Owned : List ℕ → ℕ → ℕ → Option (Reading ApsHead) → Type 0
+-- the set that a place holds, by its header, its head and the bit where it ends
+pub record Owns (t : List ℕ) (k i : ℕ) (o : HeldSet (Reading ApsHead)) : Type 0 where
+  pub from : HeldAps
+  pub held-is : held t k i ≡ some from
+  pub header-is : o.header ≡ from.header
+  pub read : read_rbsp (drop 2 (place_bytes t k i)) ≡ value from.set o.set.end
+  pub is : o.set.value ≡ head_of from.set
+
+abbrev pub Owned : List ℕ → ℕ → ℕ → Option (HeldSet (Reading ApsHead)) → Type 0
 Owned t k i None = held t k i ≡ none
-Owned t k i (Some r) = Owns t k i r
+Owned t k i (Some o) = Owns t k i o
 
 -- ---- the list, put together in a buffer
 

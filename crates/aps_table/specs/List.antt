@@ -3,21 +3,21 @@ use Rattle.std.specs.Prelude.{ℕ, ◌+◌, Bool, false, cond, ◌||◌, List, [
 use Rattle.std.proofs.Math.Option.{Option, none, some}
 use Rattle.bitstream.specs.Outcome.{Outcome, value, refused, ◌then◌}
 use Rattle.bitstream.specs.Escapes.{put_bytes}
-use Rattle.aps.specs.declared.aps.VvcAps.{VvcAps}
+use Rattle.aps.specs.declared.unit_header.UnitHeader.{UnitHeader}
 use Rattle.aps.specs.Writing.{bytes_due, unit_of}
-use Rattle.aps_table.specs.Places.{Entries, names, extended, held}
+use Rattle.aps_table.specs.Places.{HeldAps, Entries, names, extended, held}
 
--- 00 00 00 01, then the unit as `write_aps_nal` gives it for type 17
-abbrev pub coded : List ℕ → List ℕ
-coded bytes = 0 ∷ 0 ∷ 0 ∷ 1 ∷ unit_of 17 bytes
+-- 00 00 00 01, then the unit as `write_aps_nal` gives it for the header that was kept
+abbrev pub coded : UnitHeader → List ℕ → List ℕ
+coded h bytes = 0 ∷ 0 ∷ 0 ∷ 1 ∷ unit_of h bytes
 
-unfoldable pub entry_due : VvcAps → Outcome (List ℕ)
-entry_due a = bytes_due a then λ bytes n. value (coded bytes) (length (coded bytes))
+unfoldable pub entry_due : HeldAps → Outcome (List ℕ)
+entry_due x = bytes_due x.set then λ bytes n. value (coded x.header bytes) (length (coded x.header bytes))
 
 -- an empty place gives no bytes
-abbrev pub entry : Option VvcAps → Outcome (List ℕ)
+abbrev pub entry : Option HeldAps → Outcome (List ℕ)
 entry none = value [] 0
-entry (some a) = entry_due a
+entry (some x) = entry_due x
 
 -- bytes and then bytes; the first refusal is the answer
 abbrev pub joined : Outcome (List ℕ) → Outcome (List ℕ) → Outcome (List ℕ)
@@ -28,9 +28,9 @@ listed [] b = value [] 0
 listed (n ∷ ns) b = joined (entry (b n.0 n.1)) (listed ns b)
 
 -- a set held has extension flag 1
-abbrev pub is_extended : Option VvcAps → Bool
+abbrev pub is_extended : Option HeldAps → Bool
 is_extended none = false
-is_extended (some a) = extended a
+is_extended (some x) = extended x.set
 
 unfoldable pub any_extended : List (ℕ × ℕ) → Entries → Bool
 any_extended [] b = false

@@ -1,17 +1,18 @@
 -- What a unit comes to, and what units do to the table, the work buffer and the counts.
-use Rattle.std.specs.Prelude.{ℕ, ◌+◌, ◌/◌, ◌%◌, Bool, cond, not, ◌&&◌, List, [], ◌∷◌, leb, length, get_or, take, replicate}
+use Rattle.std.specs.Prelude.{ℕ, ◌+◌, ◌/◌, ◌%◌, Bool, cond, not, ◌&&◌, List, [], ◌∷◌, ◌++◌, leb, length, get_or, take, replicate}
 use Rattle.std.proofs.lemmas.List.Edits.{sets}
 use Rattle.bitstream.specs.Outcome.{Outcome, value, refused}
-use Rattle.aps.specs.Kinds.{most_bytes}
 use Rattle.aps.specs.Rbsp.{read_rbsp}
 use Rattle.aps.specs.Unit.{is_aps, rbsp_of, admitted, work_after}
+use Rattle.aps.specs.Writing.{header_bytes}
 use Rattle.aps.specs.declared.aps.VvcAps.{VvcAps}
-use Rattle.aps_table.specs.Places.{named, place_at, kind_in, id_in}
+use Rattle.aps.specs.declared.unit_header.UnitHeader.{UnitHeader}
+use Rattle.aps_table.specs.Places.{HeldAps, with_header, named, place_at, place_size, kind_in, id_in}
 use Rattle.aps_table.specs.declared.table.Counts.{Counts}
 
--- accepted with the set and the bit where reading it ended, passed over, refused with a number, or, damaged, refused with a number and the kind and id that it names
+-- accepted with the header and the set and the bit where reading it ended, passed over, refused with a number, or, damaged, refused with a number and the kind and id that it names
 pub data Verdict : Type 0 where
-  accept : VvcAps → ℕ → Verdict
+  accept : HeldAps → ℕ → Verdict
   pass : Verdict
   damage : ℕ → ℕ → ℕ → Verdict
   refuse : ℕ → Verdict
@@ -24,13 +25,13 @@ names_place r = leb 1 (length r) && named (get_or r 0 0 / 32) (get_or r 0 0 % 32
 unfoldable pub refused_rbsp : List ℕ → ℕ → Verdict
 refused_rbsp r n = cond (names_place r && leb n 2) (damage (get_or r 0 0 / 32) (get_or r 0 0 % 32) n) (refuse n)
 
-abbrev pub rbsp_verdict : List ℕ → Outcome VvcAps → Verdict
-rbsp_verdict r (value a q) = accept a q
-rbsp_verdict r (refused n) = refused_rbsp r n
+abbrev pub rbsp_verdict : UnitHeader → List ℕ → Outcome VvcAps → Verdict
+rbsp_verdict h r (value a q) = accept (with_header h a) q
+rbsp_verdict h r (refused n) = refused_rbsp r n
 
 -- a unit whose header is refused is not damaged
-abbrev pub unit_verdict : Outcome (Unit {0}) → List ℕ → Verdict
-unit_verdict (value e p) r = rbsp_verdict r (read_rbsp r)
+abbrev pub unit_verdict : Outcome UnitHeader → List ℕ → Verdict
+unit_verdict (value h p) r = rbsp_verdict h r (read_rbsp r)
 unit_verdict (refused n) r = refuse n
 
 -- passed over: not over 65,536 bytes, 2 or more, and a type other than 17 or 18
@@ -43,11 +44,11 @@ verdict u room = cond (is_passed u) pass (unit_verdict (admitted u room) (rbsp_o
 
 -- an emptied place is zeros
 unfoldable pub clear : ℕ → ℕ → List ℕ → List ℕ
-clear k i t = sets t (place_at k i) (replicate (most_bytes k) 0)
+clear k i t = sets t (place_at k i) (replicate (place_size k) 0)
 
--- an accepted set replaces its place: the bytes of its RBSP that were read go there; a damaged one empties the place that it names
+-- an accepted set replaces its place: the unit's header and the bytes of its RBSP that were read go there; a damaged one empties the place that it names
 abbrev pub put : Verdict → List ℕ → List ℕ → List ℕ
-put (accept a q) rbsp t = sets t (place_at (kind_in a) (id_in a)) (take ((q + 7) / 8) rbsp)
+put (accept x q) rbsp t = sets t (place_at (kind_in x.set) (id_in x.set)) (header_bytes x.header ++ take ((q + 7) / 8) rbsp)
 put pass rbsp t = t
 put (damage k i n) rbsp t = clear k i t
 put (refuse n) rbsp t = t
@@ -66,7 +67,7 @@ work_units (u ∷ us) work = work_units us (work_after u work)
 
 -- one unit more is counted
 abbrev pub count : Verdict → Counts → Counts
-count (accept a q) c = record { accepted = c.accepted + 1; refused = c.refused; passed = c.passed }
+count (accept x q) c = record { accepted = c.accepted + 1; refused = c.refused; passed = c.passed }
 count pass c = record { accepted = c.accepted; refused = c.refused; passed = c.passed + 1 }
 count (damage k i n) c = record { accepted = c.accepted; refused = c.refused + 1; passed = c.passed }
 count (refuse n) c = record { accepted = c.accepted; refused = c.refused + 1; passed = c.passed }

@@ -1,16 +1,17 @@
 // The list at a cut: every filled place as a unit in the byte stream form, kind rising, then id rising.
-ghost use Rattle.std.specs.Prelude.{◌≡◌, ◌+◌, ◌*◌, ◌/◌, ◌≤◌, eqb, length, take};
+ghost use Rattle.std.specs.Prelude.{◌≡◌, true, ◌+◌, ◌*◌, ◌/◌, ◌≤◌, eqb, length, take};
 ghost use Rattle.bitstream.specs.Outcome.{left, value, outcome_written};
 ghost use Rattle.aps.specs.ApsSyntax.{number_of};
 ghost use Rattle.aps.specs.Kinds.{most_bytes};
+ghost use Rattle.aps.specs.Unit.{is_aps_header};
 ghost use Rattle.aps_table.specs.declared.list.TheConstants.{LIST_BYTES};
 ghost use Rattle.aps_table.specs.Places.{names, held, present, filled};
 ghost use Rattle.aps_table.specs.List.{coded, entry, joined, listed, write_list};
 
-use crate::places::{ALF_PLACES, LMCS_PLACES, PLACES, Place, SCALING_PLACES, Table};
+use crate::places::{ALF_PLACES, HEADER_BYTES, LMCS_PLACES, PLACES, Place, SCALING_PLACES, Table};
 use crate::table::own_head;
 use aps::aps::{Alf, Lmcs, Scaling};
-use aps::nal_header::NAL_TYPE_PREFIX_APS;
+use aps::unit_header::UnitHeader;
 use aps::write::{copy_out, write_nal};
 use bitstream::Refusal;
 
@@ -41,13 +42,13 @@ impl CutList {
         }
     }
 
-    // An RBSP as a unit of type 17 after a start code, put at the end.
-    fn put_unit(&mut self, rbsp: &[u8]) -> Result<(), Refusal>
-        requires { (self.old.len + (6 + length rbsp.now * 3 / 2) ≤ LIST_BYTES) × (length rbsp.now ≤ most_bytes 2) }
-        ensures { written result self.new ≡ joined (so_far self.old) (value (coded rbsp.now) (length (coded rbsp.now))) }
+    // An RBSP as a unit of a header after a start code, put at the end.
+    fn put_unit(&mut self, header: UnitHeader, rbsp: &[u8]) -> Result<(), Refusal>
+        requires { (self.old.len + (6 + length rbsp.now * 3 / 2) ≤ LIST_BYTES) × ((length rbsp.now ≤ most_bytes 2) × (is_aps_header header ≡ true)) }
+        ensures { written result self.new ≡ joined (so_far self.old) (value (coded header rbsp.now) (length (coded header rbsp.now))) }
     {
         let start = self.len + 4;
-        let n = write_nal(rbsp, NAL_TYPE_PREFIX_APS, &mut self.buffer[start..])?;
+        let n = write_nal(rbsp, header, &mut self.buffer[start..])?;
         self.buffer[self.len..start].copy_from_slice(&[0, 0, 0, 1]);
         self.len = start + n;
         Ok(())
@@ -58,13 +59,14 @@ impl CutList {
         requires { self.old.len + most_listed (number_of place.kind) ≤ LIST_BYTES }
         ensures { written result self.new ≡ joined (so_far self.old) (entry (held table.now (number_of place.kind) place.id)) }
     {
-        let Some(reading) = own_head(table, place) else {
+        let Some(own) = own_head(table, place) else {
             return Ok(());
         };
+        let reading = own.set;
         if reading.value.aps_extension_flag {
             return Err(Refusal::Unsupported);
         }
-        self.put_unit(&place.bytes(table)[..reading.end / 8])
+        self.put_unit(own.header, &place.rbsp(table)[..reading.end / 8])
     }
 
     // All 20 places.
@@ -86,11 +88,11 @@ impl CutList {
     }
 }
 
-// Whether a place holds a set; its first byte tells most that do not.
+// Whether a place holds a set; its RBSP's first byte tells most that do not.
 fn is_held(table: &Table, place: Place) -> bool
     ensures { result ≡ eqb (present (held table.now (number_of place.kind) place.id)) 1 }
 {
-    if table[place.at()] != u8::from(place.kind) * 32 + place.id {
+    if table[place.at() + HEADER_BYTES] != u8::from(place.kind) * 32 + place.id {
         return false;
     }
     own_head(table, place).is_some()

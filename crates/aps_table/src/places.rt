@@ -1,11 +1,13 @@
 // The 20 places of the table, and the bytes of each in the memory that the caller lends.
-ghost use Rattle.std.specs.Prelude.{◌≡◌, ◌+◌, ◌≤◌, ◌<◌, false, ◌∷◌, drop, length, IfSome, IfNone};
+ghost use Rattle.std.specs.Prelude.{◌≡◌, ◌+◌, ◌≤◌, ◌<◌, false, ◌∷◌, ◌++◌, drop, length, IfSome, IfNone};
 ghost use Rattle.std.proofs.lemmas.List.Edits.{sets};
 ghost use Rattle.aps.specs.Kinds.{largest_id, most_bytes};
 ghost use Rattle.aps.specs.ApsSyntax.{number_of};
-ghost use Rattle.aps_table.specs.Places.{named, names, place_at, place_bytes, new_table};
+ghost use Rattle.aps_table.specs.Inner.{Heads};
+ghost use Rattle.aps_table.specs.Places.{named, names, place_at, place_size, place_bytes, new_table};
 
 use aps::aps::{Alf, ApsKind, Lmcs, Scaling};
+use aps::unit_header::{UnitHeader, parse_unit_header};
 
 // How many places each kind has.
 pub(crate) const ALF_PLACES: usize = Alf::MAX_ID as usize + 1;
@@ -16,12 +18,21 @@ pub(crate) const SCALING_PLACES: usize = Scaling::MAX_ID as usize + 1;
 
 pub(crate) const PLACES: usize = ALF_PLACES + LMCS_PLACES + SCALING_PLACES;
 
-// Each place has the most bytes that a set of its kind takes.
-pub const TABLE_BYTES: usize = ALF_PLACES * Alf::MAX_BYTES
-    + LMCS_PLACES * Lmcs::MAX_BYTES
-    + SCALING_PLACES * Scaling::MAX_BYTES;
+// The bytes of a unit's header.
+pub(crate) const HEADER_BYTES: usize = 2;
 
-// In each place the bytes of the RBSP last accepted for it; all zero when new or emptied.
+// A place has a header and the most bytes that a set of its kind takes.
+const ALF_SIZE: usize = HEADER_BYTES + Alf::MAX_BYTES;
+
+const LMCS_SIZE: usize = HEADER_BYTES + Lmcs::MAX_BYTES;
+
+const SCALING_SIZE: usize = HEADER_BYTES + Scaling::MAX_BYTES;
+
+pub const TABLE_BYTES: usize = ALF_PLACES * ALF_SIZE
+    + LMCS_PLACES * LMCS_SIZE
+    + SCALING_PLACES * SCALING_SIZE;
+
+// In each place the header and the RBSP of the unit last accepted for it; all zero when new or emptied.
 pub type Table = [u8; TABLE_BYTES];
 
 // A table with all places empty.
@@ -79,14 +90,14 @@ impl Place {
         }
     }
 
-    // The most bytes that a set of its kind takes.
+    // How many bytes it has.
     fn size(self) -> usize
-        ensures { result ≡ most_bytes (number_of self.kind) }
+        ensures { result ≡ place_size (number_of self.kind) }
     {
         match self.kind {
-            ApsKind::Alf => Alf::MAX_BYTES,
-            ApsKind::Lmcs => Lmcs::MAX_BYTES,
-            ApsKind::Scaling => Scaling::MAX_BYTES,
+            ApsKind::Alf => ALF_SIZE,
+            ApsKind::Lmcs => LMCS_SIZE,
+            ApsKind::Scaling => SCALING_SIZE,
         }
     }
 
@@ -96,11 +107,9 @@ impl Place {
     {
         let i = self.id as usize;
         match self.kind {
-            ApsKind::Alf => i * Alf::MAX_BYTES,
-            ApsKind::Lmcs => ALF_PLACES * Alf::MAX_BYTES + i * Lmcs::MAX_BYTES,
-            ApsKind::Scaling => {
-                ALF_PLACES * Alf::MAX_BYTES + LMCS_PLACES * Lmcs::MAX_BYTES + i * Scaling::MAX_BYTES
-            }
+            ApsKind::Alf => i * ALF_SIZE,
+            ApsKind::Lmcs => ALF_PLACES * ALF_SIZE + i * LMCS_SIZE,
+            ApsKind::Scaling => ALF_PLACES * ALF_SIZE + LMCS_PLACES * LMCS_SIZE + i * SCALING_SIZE,
         }
     }
 
@@ -112,13 +121,29 @@ impl Place {
         &table[at..at + self.size()]
     }
 
-    // An RBSP put at its start; the rest stays.
-    pub(crate) fn store(self, table: &mut Table, rbsp: &[u8])
-        requires { length rbsp.now ≤ most_bytes (number_of self.kind) }
-        ensures { table.new ≡ sets table.old (place_at (number_of self.kind) self.id) rbsp.now }
+    // The header that it begins with.
+    pub(crate) fn header(self, table: &Table) -> Option<UnitHeader>
+        ensures { Heads (place_bytes table.now (number_of self.kind) self.id) result }
+    {
+        parse_unit_header(self.bytes(table)).ok()
+    }
+
+    // The bytes after it.
+    pub(crate) fn rbsp(self, table: &Table) -> &[u8]
+        ensures { result.now ≡ drop 2 (place_bytes table.now (number_of self.kind) self.id) }
+    {
+        &self.bytes(table)[HEADER_BYTES..]
+    }
+
+    // A unit's header and RBSP put at its start; the rest stays.
+    pub(crate) fn store(self, table: &mut Table, header: &[u8], rbsp: &[u8])
+        requires { (length header.now ≡ 2) × (length rbsp.now ≤ most_bytes (number_of self.kind)) }
+        ensures { table.new ≡ sets table.old (place_at (number_of self.kind) self.id) (header.now ++ rbsp.now) }
     {
         let at = self.at();
-        table[at..at + rbsp.len()].copy_from_slice(rbsp);
+        let start = at + HEADER_BYTES;
+        table[at..start].copy_from_slice(header);
+        table[start..start + rbsp.len()].copy_from_slice(rbsp);
     }
 
     ghost use Rattle.aps_table.specs.Taking.{clear};

@@ -3,19 +3,22 @@ ghost use Rattle.std.specs.Prelude.{◌≡◌, true, false, ◌+◌, ◌/◌, �
 ghost use Rattle.bitstream.specs.Outcome.{number};
 ghost use Rattle.aps.specs.Unit.{work_after};
 ghost use Rattle.aps.specs.ApsSyntax.{number_of};
+ghost use Rattle.aps.specs.Reading.{head_of, part_by};
 ghost use Rattle.aps_table.specs.Split.{split};
 ghost use Rattle.aps_table.specs.Inner.{splits, units_of, names_damaged, Owned};
 ghost use Rattle.aps_table.specs.Places.{found_in, held, looked_up};
 ghost use Rattle.aps_table.specs.Taking.{Verdict, is_passed, take_units, work_units, tally, no_units, count as count_of};
 ghost use Rattle.aps_table.specs.Calls.{stream, alone, single, table_after, answer_to, work_after_stream};
-ghost use Rattle.aps_table.specs.Answers.{unit_answer, stream_answer, lookup_answer, head_answer, head_looked, payload_answer, payload_looked};
+ghost use Rattle.aps_table.specs.Answers.{unit_answer, stream_answer, lookup_answer, looked_answer, looked_by};
 
-use crate::places::{Place, Table};
+use crate::held_set::HeldSet;
+use crate::places::{HEADER_BYTES, Place, Table};
 use crate::split::Cursor;
 use aps::aps::{ApsHead, Reading, VvcAps, parse_aps_head, parse_aps_rbsp};
 use aps::nal_header::parse_nal_header;
 use aps::payload::{ApsOf, Payload};
-use aps::unit::{is_aps, parse_unit_head};
+use aps::unit::parse_unit_head;
+use aps::unit_header::{is_aps, parse_unit_header};
 use bitstream::{Input, Refusal};
 
 // What a unit alone comes to where it is not refused: it is accepted or passed over.
@@ -88,6 +91,8 @@ fn take_aps(table: &mut Table, unit: &[u8], work: &mut [u8]) -> Result<Taken, Re
     ensures table { table.new ≡ table_after (alone unit.now (length work.old)) table.old }
     ensures work { work.new ≡ work_after unit.now work.old }
 {
+    // A header that is refused empties no place.
+    parse_unit_header(unit)?;
     match parse_unit_head(unit, work) {
         Ok(reading) => {
             let head = reading.value;
@@ -95,7 +100,7 @@ fn take_aps(table: &mut Table, unit: &[u8], work: &mut [u8]) -> Result<Taken, Re
                 kind: head.kind,
                 id: head.aps_adaptation_parameter_set_id,
             };
-            place.store(table, &work[..(reading.end + 7) / 8]);
+            place.store(table, &unit[..HEADER_BYTES], &work[..(reading.end + 7) / 8]);
             Ok(Taken::Accepted)
         }
         Err(why) => {
@@ -152,68 +157,78 @@ pub fn take_stream(table: &mut Table, bytes: &[u8], work: &mut [u8]) -> Result<C
 }
 
 // The set of a place, or 6.
-fn set_held(table: &Table, place: Place) -> Result<VvcAps, Refusal>
+fn set_held(table: &Table, place: Place) -> Result<HeldSet<VvcAps>, Refusal>
     ensures { lookup_answer result ≡ found_in (held table.now (number_of place.kind) place.id) }
 {
-    if let Ok(reading) = parse_aps_rbsp(place.bytes(table)) {
+    let header = place.header(table).ok_or(Refusal::EmptyPlace)?;
+    if let Ok(reading) = parse_aps_rbsp(place.rbsp(table)) {
         let set = reading.value;
         if (set.kind, set.aps_adaptation_parameter_set_id) == (place.kind, place.id) {
-            return Ok(set);
+            return Ok(HeldSet { header, set });
         }
     }
     Err(Refusal::EmptyPlace)
 }
 
-// The set held for a kind and an id: 2; 6. The kind is a number, and one that is no kind's gets 2.
-pub fn lookup(table: &Table, kind: u8, id: u8) -> Result<VvcAps, Refusal>
+// The set held for a kind and an id, with its unit's header: 2; 6. The kind is a number, and one that is no kind's gets 2.
+pub fn lookup(table: &Table, kind: u8, id: u8) -> Result<HeldSet<VvcAps>, Refusal>
     ensures { lookup_answer result ≡ looked_up table.now kind id }
 {
     set_held(table, Place::new(kind, id).ok_or(Refusal::InvalidData)?)
 }
 
-// The head of a place's own set and the bit where the set ends, if it holds one. One body for it, the set and a payload would need a trait with an impl for each, and be longer.
-pub(crate) fn own_head(table: &Table, place: Place) -> Option<Reading<ApsHead>>
+// The header and the head of a place's own set and the bit where the set ends, if it holds one. One body for it, the set and a payload would need a trait with an impl for each, and be longer.
+pub(crate) fn own_head(table: &Table, place: Place) -> Option<HeldSet<Reading<ApsHead>>>
     ensures { Owned table.now (number_of place.kind) place.id result }
 {
-    if let Ok(reading) = parse_aps_head(place.bytes(table)) {
+    let header = place.header(table)?;
+    if let Ok(reading) = parse_aps_head(place.rbsp(table)) {
         let head = reading.value;
         if (head.kind, head.aps_adaptation_parameter_set_id) == (place.kind, place.id) {
-            return Some(reading);
+            return Some(HeldSet {
+                header,
+                set: reading,
+            });
         }
     }
     None
 }
 
 // The head of the set of a place, or 6.
-fn head_held(table: &Table, place: Place) -> Result<ApsHead, Refusal>
-    ensures { head_answer result ≡ head_looked (found_in (held table.now (number_of place.kind) place.id)) }
+fn head_held(table: &Table, place: Place) -> Result<HeldSet<ApsHead>, Refusal>
+    ensures { looked_answer result ≡ looked_by head_of (found_in (held table.now (number_of place.kind) place.id)) }
 {
-    Ok(own_head(table, place).ok_or(Refusal::EmptyPlace)?.value)
+    let own = own_head(table, place).ok_or(Refusal::EmptyPlace)?;
+    Ok(HeldSet {
+        header: own.header,
+        set: own.set.value,
+    })
 }
 
-// Of the set held for a kind and an id its head, and no array: 2; 6. C passes a kind's number.
-pub fn lookup_head(table: &Table, kind: u8, id: u8) -> Result<ApsHead, Refusal>
-    ensures { head_answer result ≡ head_looked (looked_up table.now kind id) }
+// Of the set held for a kind and an id its header and its head, and no array: 2; 6. C passes a kind's number.
+pub fn lookup_head(table: &Table, kind: u8, id: u8) -> Result<HeldSet<ApsHead>, Refusal>
+    ensures { looked_answer result ≡ looked_by head_of (looked_up table.now kind id) }
 {
     head_held(table, Place::new(kind, id).ok_or(Refusal::InvalidData)?)
 }
 
-// Of the set of a place its head and one kind's payload, or 6.
-fn payload_held<P: Payload>(table: &Table, place: Place) -> Result<ApsOf<P>, Refusal>
-    ensures { payload_answer result ≡ payload_looked P.part (found_in (held table.now (number_of place.kind) place.id)) }
+// Of the set of a place its header, its head and one kind's payload, or 6.
+fn payload_held<P: Payload>(table: &Table, place: Place) -> Result<HeldSet<ApsOf<P>>, Refusal>
+    ensures { looked_answer result ≡ looked_by (part_by P.part) (found_in (held table.now (number_of place.kind) place.id)) }
 {
-    if let Ok(reading) = P::parse_rbsp(place.bytes(table)) {
+    let header = place.header(table).ok_or(Refusal::EmptyPlace)?;
+    if let Ok(reading) = P::parse_rbsp(place.rbsp(table)) {
         let set = reading.value;
         if (set.head.kind, set.head.aps_adaptation_parameter_set_id) == (place.kind, place.id) {
-            return Ok(set);
+            return Ok(HeldSet { header, set });
         }
     }
     Err(Refusal::EmptyPlace)
 }
 
-// The set held for an id of one kind, by its payload alone: 2; 6.
-pub fn lookup_of<P: Payload>(table: &Table, id: u8) -> Result<ApsOf<P>, Refusal>
-    ensures { payload_answer result ≡ payload_looked P.part (looked_up table.now (number_of P.KIND) id) }
+// The set held for an id of one kind, by its header and its payload alone: 2; 6.
+pub fn lookup_of<P: Payload>(table: &Table, id: u8) -> Result<HeldSet<ApsOf<P>>, Refusal>
+    ensures { looked_answer result ≡ looked_by (part_by P.part) (looked_up table.now (number_of P.KIND) id) }
 {
     payload_held(
         table,

@@ -4,12 +4,13 @@ use Rattle.std.proofs.lemmas.List.Edits.{sets}
 use Rattle.bitstream.specs.Outcome.{Outcome, value, refused, ◌then◌}
 use Rattle.aps.specs.ApsSyntax.{number_of}
 use Rattle.aps.specs.Rbsp.{parse_aps_rbsp}
-use Rattle.aps.specs.Unit.{is_aps}
+use Rattle.aps.specs.Unit.{is_aps_header}
 use Rattle.aps.specs.Writing.{write_aps}
 use Rattle.aps.specs.declared.aps.ApsKind.{ApsKind}
 use Rattle.aps.specs.declared.aps.VvcAps.{VvcAps}
 use Rattle.aps.specs.declared.nal_header.VvcNalHeader.{VvcNalHeader}
-use Rattle.aps_table.specs.Places.{Looked, found, missing}
+use Rattle.aps.specs.declared.unit_header.UnitHeader.{UnitHeader}
+use Rattle.aps_table.specs.Places.{HeldAps, Looked, found, missing}
 use Rattle.aps_table.specs.Calls.{Answer, counted, accepted, passed, refusal}
 
 -- 0 for a value, or the refusal's number
@@ -33,20 +34,27 @@ of_kind kind of o = o then λ a q. cond (eqb (number_of a.kind) (number_of kind)
 
 -- the same of a lookup
 unfoldable pub looked_code : Looked → ℕ
-looked_code (found a) = 0
+looked_code (found x) = 0
 looked_code (missing n) = n
 
-unfoldable pub looked_left : {S : Type 0} → (VvcAps → S) → Looked → S → S
-looked_left of (found a) before = of a
+unfoldable pub looked_left : {S : Type 0} → (HeldAps → S) → Looked → S → S
+looked_left of (found x) before = of x
 looked_left of (missing n) before = before
+
+-- of what is held the header, and what is made of the set
+abbrev pub header_held : HeldAps → UnitHeader
+header_held x = x.header
+
+abbrev pub set_held : {S : Type 0} → (VvcAps → S) → HeldAps → S
+set_held of x = of x.set
 
 -- a set of C's is written where its extension flag is not 1, else 3, and its flags are 0 or 1, else 2
 unfoldable pub taken : ℕ → Bool → Outcome (List ℕ) → Outcome (List ℕ)
 taken extension flags o = cond (eqb extension 1) (refused 3) (cond flags o (refused 2))
 
--- as a unit: its type comes first
-unfoldable pub taken_nal : ℕ → ℕ → Bool → Outcome (List ℕ) → Outcome (List ℕ)
-taken_nal type extension flags o = cond (is_aps type) (taken extension flags o) (refused 2)
+-- as a unit: its header comes first
+unfoldable pub taken_nal : UnitHeader → ℕ → Bool → Outcome (List ℕ) → Outcome (List ℕ)
+taken_nal h extension flags o = cond (is_aps_header h) (taken extension flags o) (refused 2)
 
 -- the header's five fields; on a refusal the array at entry
 unfoldable pub header_left : Outcome VvcNalHeader → List ℕ → List ℕ

@@ -7,13 +7,13 @@ ghost use Rattle.aps.specs.Unit.{parse_aps, work_after};
 ghost use Rattle.aps.specs.Reading.{outcome_reading, part_by};
 ghost use Rattle.aps.specs.Writing.{write_aps, write_aps_nal};
 ghost use Rattle.aps_table.specs.Places.{looked_up};
-ghost use Rattle.kendwyra.specs.Codes.{code, value_left, place_left, of_kind, looked_code, looked_left, taken, taken_nal};
+ghost use Rattle.kendwyra.specs.Codes.{code, value_left, place_left, of_kind, looked_code, looked_left, header_held, set_held, taken, taken_nal};
 ghost use Rattle.aps.specs.declared.aps.VvcAps.{VvcAps};
 
 use crate::set::Struct;
 use aps::aps::Reading;
 use aps::payload::{ApsOf, Payload};
-use aps::unit::is_aps;
+use aps::unit_header::UnitHeader;
 use aps_table::places::Table;
 use aps_table::table::lookup_of;
 use bitstream::Refusal;
@@ -70,15 +70,22 @@ pub(crate) fn parse<P: Payload, S: Struct<P>>(
     answered(P::parse_unit(unit, work), set, end)
 }
 
-// The set held for an id.
+// The set held for an id, and its unit's header.
 #[tactic(auto, unfolding(crate::specs::Codes::looked_code, crate::specs::Codes::looked_left))]
-pub(crate) fn look_up<P: Payload, S: Struct<P>>(table: &Table, id: u8, set: &mut S) -> u32
+pub(crate) fn look_up<P: Payload, S: Struct<P>>(
+    table: &Table,
+    id: u8,
+    set: &mut S,
+    header: &mut UnitHeader,
+) -> u32
     ensures code { result ≡ looked_code (looked_up table.now (number_of P.KIND) id) }
-    ensures set { set.new ≡ looked_left S.of (looked_up table.now (number_of P.KIND) id) set.old }
+    ensures set { set.new ≡ looked_left (set_held S.of) (looked_up table.now (number_of P.KIND) id) set.old }
+    ensures header { header.new ≡ looked_left header_held (looked_up table.now (number_of P.KIND) id) header.old }
 {
     match lookup_of::<P>(table, id) {
         Ok(found) => {
-            set.put(&found);
+            set.put(&found.set);
+            *header = found.header;
             0
         }
         Err(why) => why.into(),
@@ -123,15 +130,15 @@ pub(crate) fn write<P: Payload, S: Struct<P>>(set: &S, out: &mut [u8], len: &mut
 #[tactic(auto, unfolding(crate::specs::Codes::code, crate::specs::Codes::place_left, crate::specs::Codes::taken, crate::specs::Codes::taken_nal))]
 pub(crate) fn write_nal<P: Payload, S: Struct<P>>(
     set: &S,
-    unit_type: u8,
+    header: UnitHeader,
     out: &mut [u8],
     len: &mut [u64; 1],
 ) -> u32
-    ensures code { result ≡ code (taken_nal unit_type (S.extension set.now) (S.flags set.now) (write_aps_nal (S.meaning set.now) unit_type out.old)) }
-    ensures out { out.new ≡ left out.old (taken_nal unit_type (S.extension set.now) (S.flags set.now) (write_aps_nal (S.meaning set.now) unit_type out.old)) }
-    ensures len { len.new ≡ place_left (taken_nal unit_type (S.extension set.now) (S.flags set.now) (write_aps_nal (S.meaning set.now) unit_type out.old)) len.old }
+    ensures code { result ≡ code (taken_nal header (S.extension set.now) (S.flags set.now) (write_aps_nal (S.meaning set.now) header out.old)) }
+    ensures out { out.new ≡ left out.old (taken_nal header (S.extension set.now) (S.flags set.now) (write_aps_nal (S.meaning set.now) header out.old)) }
+    ensures len { len.new ≡ place_left (taken_nal header (S.extension set.now) (S.flags set.now) (write_aps_nal (S.meaning set.now) header out.old)) len.old }
 {
-    if !is_aps(unit_type) {
+    if !header.is_aps() {
         return Refusal::InvalidData.into();
     }
     if set.extension() == 1 {
@@ -143,7 +150,7 @@ pub(crate) fn write_nal<P: Payload, S: Struct<P>>(
                 set.id(),
                 set.chroma() == 1,
                 set.extension() == 1,
-                unit_type,
+                header,
                 out,
             ),
             len,

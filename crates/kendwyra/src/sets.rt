@@ -5,7 +5,7 @@ ghost use Rattle.aps.specs.Rbsp.{parse_aps_rbsp};
 ghost use Rattle.aps.specs.Unit.{parse_aps, work_after};
 ghost use Rattle.aps.specs.Writing.{write_aps, write_aps_nal};
 ghost use Rattle.aps_table.specs.Places.{looked_up};
-ghost use Rattle.kendwyra.specs.Codes.{code, value_left, place_left, of_kind, looked_code, looked_left, taken, taken_nal};
+ghost use Rattle.kendwyra.specs.Codes.{code, value_left, place_left, of_kind, looked_code, looked_left, header_held, set_held, taken, taken_nal};
 ghost use Rattle.kendwyra.specs.Structs.{alf_struct, alf_flags, alf_in, lmcs_struct, lmcs_flags, lmcs_in, scaling_struct, scaling_flags, scaling_in};
 
 use crate::calls;
@@ -14,6 +14,7 @@ use aps::alf::VvcAlfData;
 use aps::aps::ApsKind;
 use aps::lmcs::VvcLmcsData;
 use aps::scaling_list::VvcScalingListData;
+use aps::unit_header::UnitHeader;
 use aps_table::places::Table;
 
 // An ALF set out of its RBSP, and the bit where reading ended; 2 also for a set of another kind.
@@ -42,13 +43,19 @@ pub extern "C" fn aps_alf_parse(
     calls::parse::<VvcAlfData, ApsAlf>(unit, work, set, end)
 }
 
-// An ALF set that the table holds for an id.
+// An ALF set that the table holds for an id, and its unit's header.
 #[unsafe(no_mangle)]
-pub extern "C" fn aps_alf_lookup(table: &Table, id: u8, set: &mut ApsAlf) -> u32
+pub extern "C" fn aps_alf_lookup(
+    table: &Table,
+    id: u8,
+    set: &mut ApsAlf,
+    header: &mut UnitHeader,
+) -> u32
     ensures code { result ≡ looked_code (looked_up table.now 0 id) }
-    ensures set { set.new ≡ looked_left alf_struct (looked_up table.now 0 id) set.old }
+    ensures set { set.new ≡ looked_left (set_held alf_struct) (looked_up table.now 0 id) set.old }
+    ensures header { header.new ≡ looked_left header_held (looked_up table.now 0 id) header.old }
 {
-    calls::look_up::<VvcAlfData, ApsAlf>(table, id, set)
+    calls::look_up::<VvcAlfData, ApsAlf>(table, id, set, header)
 }
 
 // An ALF set as an RBSP at the start of out, and its length.
@@ -65,15 +72,15 @@ pub extern "C" fn aps_alf_write(set: &ApsAlf, out: &mut [u8], len: &mut [u64; 1]
 #[unsafe(no_mangle)]
 pub extern "C" fn aps_alf_write_nal(
     set: &ApsAlf,
-    unit_type: u8,
+    header: UnitHeader,
     out: &mut [u8],
     len: &mut [u64; 1],
 ) -> u32
-    ensures code { result ≡ code (taken_nal unit_type set.now.aps_extension_flag (alf_flags set.now) (write_aps_nal (alf_in set.now) unit_type out.old)) }
-    ensures out { out.new ≡ left out.old (taken_nal unit_type set.now.aps_extension_flag (alf_flags set.now) (write_aps_nal (alf_in set.now) unit_type out.old)) }
-    ensures len { len.new ≡ place_left (taken_nal unit_type set.now.aps_extension_flag (alf_flags set.now) (write_aps_nal (alf_in set.now) unit_type out.old)) len.old }
+    ensures code { result ≡ code (taken_nal header set.now.aps_extension_flag (alf_flags set.now) (write_aps_nal (alf_in set.now) header out.old)) }
+    ensures out { out.new ≡ left out.old (taken_nal header set.now.aps_extension_flag (alf_flags set.now) (write_aps_nal (alf_in set.now) header out.old)) }
+    ensures len { len.new ≡ place_left (taken_nal header set.now.aps_extension_flag (alf_flags set.now) (write_aps_nal (alf_in set.now) header out.old)) len.old }
 {
-    calls::write_nal::<VvcAlfData, ApsAlf>(set, unit_type, out, len)
+    calls::write_nal::<VvcAlfData, ApsAlf>(set, header, out, len)
 }
 
 // An LMCS set out of its RBSP, and the bit where reading ended; 2 also for a set of another kind.
@@ -102,13 +109,19 @@ pub extern "C" fn aps_lmcs_parse(
     calls::parse::<VvcLmcsData, ApsLmcs>(unit, work, set, end)
 }
 
-// An LMCS set that the table holds for an id.
+// An LMCS set that the table holds for an id, and its unit's header.
 #[unsafe(no_mangle)]
-pub extern "C" fn aps_lmcs_lookup(table: &Table, id: u8, set: &mut ApsLmcs) -> u32
+pub extern "C" fn aps_lmcs_lookup(
+    table: &Table,
+    id: u8,
+    set: &mut ApsLmcs,
+    header: &mut UnitHeader,
+) -> u32
     ensures code { result ≡ looked_code (looked_up table.now 1 id) }
-    ensures set { set.new ≡ looked_left lmcs_struct (looked_up table.now 1 id) set.old }
+    ensures set { set.new ≡ looked_left (set_held lmcs_struct) (looked_up table.now 1 id) set.old }
+    ensures header { header.new ≡ looked_left header_held (looked_up table.now 1 id) header.old }
 {
-    calls::look_up::<VvcLmcsData, ApsLmcs>(table, id, set)
+    calls::look_up::<VvcLmcsData, ApsLmcs>(table, id, set, header)
 }
 
 // An LMCS set as an RBSP at the start of out, and its length.
@@ -125,15 +138,15 @@ pub extern "C" fn aps_lmcs_write(set: &ApsLmcs, out: &mut [u8], len: &mut [u64; 
 #[unsafe(no_mangle)]
 pub extern "C" fn aps_lmcs_write_nal(
     set: &ApsLmcs,
-    unit_type: u8,
+    header: UnitHeader,
     out: &mut [u8],
     len: &mut [u64; 1],
 ) -> u32
-    ensures code { result ≡ code (taken_nal unit_type set.now.aps_extension_flag (lmcs_flags set.now) (write_aps_nal (lmcs_in set.now) unit_type out.old)) }
-    ensures out { out.new ≡ left out.old (taken_nal unit_type set.now.aps_extension_flag (lmcs_flags set.now) (write_aps_nal (lmcs_in set.now) unit_type out.old)) }
-    ensures len { len.new ≡ place_left (taken_nal unit_type set.now.aps_extension_flag (lmcs_flags set.now) (write_aps_nal (lmcs_in set.now) unit_type out.old)) len.old }
+    ensures code { result ≡ code (taken_nal header set.now.aps_extension_flag (lmcs_flags set.now) (write_aps_nal (lmcs_in set.now) header out.old)) }
+    ensures out { out.new ≡ left out.old (taken_nal header set.now.aps_extension_flag (lmcs_flags set.now) (write_aps_nal (lmcs_in set.now) header out.old)) }
+    ensures len { len.new ≡ place_left (taken_nal header set.now.aps_extension_flag (lmcs_flags set.now) (write_aps_nal (lmcs_in set.now) header out.old)) len.old }
 {
-    calls::write_nal::<VvcLmcsData, ApsLmcs>(set, unit_type, out, len)
+    calls::write_nal::<VvcLmcsData, ApsLmcs>(set, header, out, len)
 }
 
 // A scaling set out of its RBSP, and the bit where reading ended; 2 also for a set of another kind.
@@ -166,13 +179,19 @@ pub extern "C" fn aps_scaling_parse(
     calls::parse::<VvcScalingListData, ApsScaling>(unit, work, set, end)
 }
 
-// A scaling set that the table holds for an id.
+// A scaling set that the table holds for an id, and its unit's header.
 #[unsafe(no_mangle)]
-pub extern "C" fn aps_scaling_lookup(table: &Table, id: u8, set: &mut ApsScaling) -> u32
+pub extern "C" fn aps_scaling_lookup(
+    table: &Table,
+    id: u8,
+    set: &mut ApsScaling,
+    header: &mut UnitHeader,
+) -> u32
     ensures code { result ≡ looked_code (looked_up table.now 2 id) }
-    ensures set { set.new ≡ looked_left scaling_struct (looked_up table.now 2 id) set.old }
+    ensures set { set.new ≡ looked_left (set_held scaling_struct) (looked_up table.now 2 id) set.old }
+    ensures header { header.new ≡ looked_left header_held (looked_up table.now 2 id) header.old }
 {
-    calls::look_up::<VvcScalingListData, ApsScaling>(table, id, set)
+    calls::look_up::<VvcScalingListData, ApsScaling>(table, id, set, header)
 }
 
 // A scaling set as an RBSP at the start of out, and its length.
@@ -189,13 +208,13 @@ pub extern "C" fn aps_scaling_write(set: &ApsScaling, out: &mut [u8], len: &mut 
 #[unsafe(no_mangle)]
 pub extern "C" fn aps_scaling_write_nal(
     set: &ApsScaling,
-    unit_type: u8,
+    header: UnitHeader,
     out: &mut [u8],
     len: &mut [u64; 1],
 ) -> u32
-    ensures code { result ≡ code (taken_nal unit_type set.now.aps_extension_flag (scaling_flags set.now) (write_aps_nal (scaling_in set.now) unit_type out.old)) }
-    ensures out { out.new ≡ left out.old (taken_nal unit_type set.now.aps_extension_flag (scaling_flags set.now) (write_aps_nal (scaling_in set.now) unit_type out.old)) }
-    ensures len { len.new ≡ place_left (taken_nal unit_type set.now.aps_extension_flag (scaling_flags set.now) (write_aps_nal (scaling_in set.now) unit_type out.old)) len.old }
+    ensures code { result ≡ code (taken_nal header set.now.aps_extension_flag (scaling_flags set.now) (write_aps_nal (scaling_in set.now) header out.old)) }
+    ensures out { out.new ≡ left out.old (taken_nal header set.now.aps_extension_flag (scaling_flags set.now) (write_aps_nal (scaling_in set.now) header out.old)) }
+    ensures len { len.new ≡ place_left (taken_nal header set.now.aps_extension_flag (scaling_flags set.now) (write_aps_nal (scaling_in set.now) header out.old)) len.old }
 {
-    calls::write_nal::<VvcScalingListData, ApsScaling>(set, unit_type, out, len)
+    calls::write_nal::<VvcScalingListData, ApsScaling>(set, header, out, len)
 }

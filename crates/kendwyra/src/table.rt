@@ -1,4 +1,4 @@
-// The calls of the table, which is 30,252 bytes that the caller keeps.
+// The calls of the table, which is 30,292 bytes that the caller keeps.
 ghost use Rattle.std.specs.Prelude.{◌≡◌, length, [], ◌∷◌};
 ghost use Rattle.std.proofs.lemmas.List.Edits.{sets};
 ghost use Rattle.bitstream.specs.Outcome.{left};
@@ -6,12 +6,13 @@ ghost use Rattle.aps.specs.Unit.{work_after};
 ghost use Rattle.aps_table.specs.Places.{new_table, looked_up};
 ghost use Rattle.aps_table.specs.Calls.{stream, alone, table_after, answer_to, work_after_stream};
 ghost use Rattle.aps_table.specs.List.{write_list};
-ghost use Rattle.kendwyra.specs.Codes.{code, place_left, looked_code, looked_left, answer_code, counts_left};
+ghost use Rattle.kendwyra.specs.Codes.{code, place_left, looked_code, looked_left, header_held, set_held, answer_code, counts_left};
 ghost use Rattle.kendwyra.specs.Structs.{head_struct};
 
 use crate::calls::sized;
 use crate::heads::put_head;
 use crate::structs::ApsHead;
+use aps::unit_header::UnitHeader;
 use aps_table::list::write_list;
 use aps_table::places::{Table, new_table};
 use aps_table::table::{Counts, Taken, lookup_head, take_stream, take_unit};
@@ -72,16 +73,24 @@ pub extern "C" fn aps_take_stream(
     }
 }
 
-// Of the set held for a kind and an id the kind, the id and the flags. C passes a kind's number.
+// Of the set held for a kind and an id the kind, the id and the flags, and its unit's header. C passes a kind's number.
 #[tactic(auto, unfolding(crate::specs::Codes::looked_code, crate::specs::Codes::looked_left))]
 #[unsafe(no_mangle)]
-pub extern "C" fn aps_head_lookup(table: &Table, kind: u8, id: u8, head: &mut ApsHead) -> u32
+pub extern "C" fn aps_head_lookup(
+    table: &Table,
+    kind: u8,
+    id: u8,
+    head: &mut ApsHead,
+    header: &mut UnitHeader,
+) -> u32
     ensures code { result ≡ looked_code (looked_up table.now kind id) }
-    ensures head { head.new ≡ looked_left head_struct (looked_up table.now kind id) head.old }
+    ensures head { head.new ≡ looked_left (set_held head_struct) (looked_up table.now kind id) head.old }
+    ensures header { header.new ≡ looked_left header_held (looked_up table.now kind id) header.old }
 {
     match lookup_head(table, kind, id) {
         Ok(found) => {
-            put_head(&found, head);
+            put_head(&found.set, head);
+            *header = found.header;
             0
         }
         Err(why) => why.into(),

@@ -2,8 +2,17 @@
 use crate::order::{Field, Visitor, visit};
 use crate::print::{hexadecimal, number, refused, text};
 use aps::aps::{VvcAps, parse_aps_rbsp};
+use aps::nal_header::NAL_TYPE_PREFIX_APS;
+use aps::unit_header::UnitHeader;
 use aps::write::{write_aps, write_aps_nal};
 use bitstream::Refusal;
+
+// What the Rust writes: layer 0 and temporal id 0.
+const HEADER: UnitHeader = UnitHeader {
+    nal_unit_type: NAL_TYPE_PREFIX_APS,
+    nuh_layer_id: 0,
+    nuh_temporal_id_plus1: 1,
+};
 
 // The bytes that were written, or the refusal's number.
 fn answered(size: Result<usize, Refusal>, out: &[u8]) {
@@ -21,7 +30,7 @@ fn both(set: &VvcAps, out: &mut [u8]) {
     let size = write_aps(set, out);
     answered(size, out);
     text(b", unit ");
-    let size = write_aps_nal(set, 17, out);
+    let size = write_aps_nal(set, HEADER, out);
     answered(size, out);
 }
 

@@ -36,8 +36,8 @@ fn print_set(head: ApsHead) {
 
 fn print_kind(table: &Table, kind: ApsKind) {
     for id in 0..=kind.max_id() {
-        if let Ok(head) = lookup_head(table, kind.into(), id) {
-            print_set(head);
+        if let Ok(held) = lookup_head(table, kind.into(), id) {
+            print_set(held.set);
         }
     }
 }

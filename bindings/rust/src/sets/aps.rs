@@ -1,6 +1,6 @@
 //! A set of any kind.
 
-use super::{Alf, Head, Kind, Lmcs, Scaling};
+use super::{Alf, Head, Kind, Lmcs, Scaling, UnitHeader};
 use crate::Refusal;
 
 /// A set (H.266 7.3.2.6), by its kind; some 7 KB, which come by value and not from the heap.
@@ -48,12 +48,12 @@ impl Aps {
         }
     }
 
-    /// Writes the set as a unit of type 17 or 18 at the start of `out` and gives the length.
-    pub fn write_unit(&self, unit_type: u8, out: &mut [u8]) -> Result<usize, Refusal> {
+    /// Writes the set as a unit of a header at the start of `out` and gives the length.
+    pub fn write_unit(&self, header: UnitHeader, out: &mut [u8]) -> Result<usize, Refusal> {
         match self {
-            Aps::Alf(set) => set.write_unit(unit_type, out),
-            Aps::Lmcs(set) => set.write_unit(unit_type, out),
-            Aps::Scaling(set) => set.write_unit(unit_type, out),
+            Aps::Alf(set) => set.write_unit(header, out),
+            Aps::Lmcs(set) => set.write_unit(header, out),
+            Aps::Scaling(set) => set.write_unit(header, out),
         }
     }
 

@@ -1,6 +1,6 @@
 //! The calls of the three kinds, each by its kind's exports.
 
-use super::{Alf, Head, Kind, Lmcs, Scaling};
+use super::{Alf, Head, Kind, Lmcs, Scaling, UnitHeader};
 use crate::error::{sized, Refusal};
 use crate::raw;
 
@@ -33,11 +33,11 @@ macro_rules! calls {
                 sized(code, len)
             }
 
-            /// Writes the set as a unit of type 17 or 18 at the start of `out` and gives the length.
-            pub fn write_unit(&self, unit_type: u8, out: &mut [u8]) -> Result<usize, Refusal> {
+            /// Writes the set as a unit of a header at the start of `out` and gives the length.
+            pub fn write_unit(&self, header: UnitHeader, out: &mut [u8]) -> Result<usize, Refusal> {
                 let mut len = 0;
-                // SAFETY: as for an RBSP.
-                let code = unsafe { raw::$write_nal(self, unit_type, out.as_mut_ptr(), out.len(), &mut len) };
+                // SAFETY: as for an RBSP; the header has C's layout and crosses by value.
+                let code = unsafe { raw::$write_nal(self, header, out.as_mut_ptr(), out.len(), &mut len) };
                 sized(code, len)
             }
 

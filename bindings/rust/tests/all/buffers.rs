@@ -1,10 +1,10 @@
 //! Empty slices, and inputs, outputs and work buffers that are too short.
 
 use crate::bytes::{example, example_list, hex};
-use crate::made;
+use crate::made::{self, header};
 use kendwyra::escapes::{ebsp_to_rbsp, rbsp_to_ebsp};
 use kendwyra::sets::{nal_header, read, read_unit, rewrite, write, write_unit};
-use kendwyra::{raw, Alf, Aps, Counts, Head, Lmcs, Refusal, Scaling, Table, Taken};
+use kendwyra::{raw, Alf, Aps, Counts, Head, Lmcs, Refusal, Scaling, Table, Taken, UnitHeader};
 
 const END: Refusal = Refusal::UnexpectedEnd;
 const SHORT: Refusal = Refusal::OutputTooShort;
@@ -28,8 +28,10 @@ fn empty_slices() {
     assert_eq!(rewrite(&hex("00 10"), &mut []), Err(SHORT));
     for set in made::all() {
         assert_eq!(write(&set, &mut []), Err(SHORT));
-        assert_eq!(write_unit(&set, 17, &mut []), Err(SHORT));
-        assert_eq!(write_unit(&set, 19, &mut []), Err(Refusal::InvalidData));
+        assert_eq!(write_unit(&set, UnitHeader::default(), &mut []), Err(SHORT));
+        for wrong in [header(19, 0, 1), header(17, 56, 1), header(18, 0, 0)] {
+            assert_eq!(write_unit(&set, wrong, &mut []), Err(Refusal::InvalidData));
+        }
     }
     assert_eq!(ebsp_to_rbsp(&[], &mut []), Ok(0));
     assert_eq!(rbsp_to_ebsp(&[], &mut []), Ok(0));
@@ -71,9 +73,10 @@ fn outputs() {
     let set = Aps::Lmcs(made::lmcs(1));
     let (mut rbsp, mut unit) = ([0; 64], [0; 64]);
     let len = write(&set, &mut rbsp).unwrap();
-    let unit_len = write_unit(&set, 18, &mut unit).unwrap();
+    let layered = header(18, 55, 7);
+    let unit_len = write_unit(&set, layered, &mut unit).unwrap();
     into_each_room(&rbsp[..len], |out| write(&set, out));
-    into_each_room(&unit[..unit_len], |out| write_unit(&set, 18, out));
+    into_each_room(&unit[..unit_len], |out| write_unit(&set, layered, out));
     into_each_room(&rbsp[..len], |out| rewrite(&rbsp[..len], out));
     into_each_room(&hex("00 00 03 01"), |out| rbsp_to_ebsp(&hex("00 00 01"), out));
     into_each_room(&hex("00 00 01"), |out| ebsp_to_rbsp(&hex("00 00 03 01"), out));
@@ -92,12 +95,15 @@ fn one_short() {
     ] {
         let (mut rbsp, mut unit) = ([0; 4096], [0; 6144]);
         let len = write(&set, &mut rbsp).unwrap();
-        let unit_len = write_unit(&set, 17, &mut unit).unwrap();
+        let unit_len = write_unit(&set, UnitHeader::default(), &mut unit).unwrap();
         let (rbsp, unit) = (&rbsp[..len], &unit[..unit_len]);
 
         let mut out = vec![0xAA; unit_len];
         assert_eq!(write(&set, &mut out[..len - 1]), Err(SHORT));
-        assert_eq!(write_unit(&set, 17, &mut out[..unit_len - 1]), Err(SHORT));
+        assert_eq!(
+            write_unit(&set, UnitHeader::default(), &mut out[..unit_len - 1]),
+            Err(SHORT)
+        );
         assert_eq!(rewrite(rbsp, &mut out[..len - 1]), Err(SHORT));
         assert_eq!(rbsp_to_ebsp(rbsp, &mut out[..unit_len - 3]), Err(SHORT));
         assert_eq!(ebsp_to_rbsp(&unit[2..], &mut out[..len - 1]), Err(SHORT));

@@ -22,5 +22,5 @@ pub fn example() -> Vec<u8> {
 
 /// Its list at a cut.
 pub fn example_list() -> Vec<u8> {
-    hex("00 00 00 01 00 89 00 10 00 00 00 01 00 89 20 42 12")
+    hex("00 00 00 01 00 91 00 10 00 00 00 01 00 89 20 42 12")
 }

@@ -2,7 +2,7 @@
 
 use crate::bytes::bits;
 use kendwyra::sets::{nal_header, read, read_unit, NalHeader};
-use kendwyra::{Alf, Aps, Head, Kind, Lmcs, Scaling};
+use kendwyra::{Alf, Aps, Head, Kind, Lmcs, Refusal, Scaling};
 
 #[test]
 fn alf() {
@@ -104,9 +104,9 @@ fn scaling() {
 
 #[test]
 fn unit() {
-    let unit = bits("1 0 000011 10010 101  001 00000  0 1 000010000 1 0 0 10");
+    let unit = bits("0 0 000011 10010 101  001 00000  0 1 000010000 1 0 0 10");
     let header = NalHeader {
-        forbidden_zero_bit: 1,
+        forbidden_zero_bit: 0,
         nuh_reserved_zero_bit: 0,
         nuh_layer_id: 3,
         nal_unit_type: 18,
@@ -121,4 +121,37 @@ fn unit() {
     assert_eq!(Head::read_unit(&unit, &mut work), Ok((due, 24)));
     assert_eq!(read_unit(&unit, &mut work), read(&[0x20, 0x42, 0x12]));
     assert_eq!(work, [0x20, 0x42, 0x12, 9]);
+}
+
+/// What `nal_header` gives without a judgement.
+#[test]
+fn units_whose_headers_are_refused() {
+    let rows = [
+        ("1 0 000011 10010 101", [1, 0, 3, 18, 5]),
+        ("0 1 000011 10010 101", [0, 1, 3, 18, 5]),
+        ("0 0 111000 10001 101", [0, 0, 56, 17, 5]),
+        ("0 0 111111 10001 001", [0, 0, 63, 17, 1]),
+        ("0 0 110111 10001 000", [0, 0, 55, 17, 0]),
+        ("1 1 111111 11111 000", [1, 1, 63, 31, 0]),
+    ];
+    for (header, fields) in rows {
+        let unit = bits(&format!("{header}  001 00000  0 1 000010000 1 0 0 10"));
+        let [forbidden_zero_bit, nuh_reserved_zero_bit, nuh_layer_id, nal_unit_type, nuh_temporal_id_plus1] = fields;
+        let due = NalHeader {
+            forbidden_zero_bit,
+            nuh_reserved_zero_bit,
+            nuh_layer_id,
+            nal_unit_type,
+            nuh_temporal_id_plus1,
+        };
+        assert_eq!(nal_header(&unit), Ok(due));
+        let mut work = [9; 4];
+        let refused = Refusal::InvalidData;
+        assert_eq!(Head::read_unit(&unit, &mut work), Err(refused), "{header}");
+        assert_eq!(Alf::read_unit(&unit, &mut work), Err(refused), "{header}");
+        assert_eq!(Lmcs::read_unit(&unit, &mut work), Err(refused), "{header}");
+        assert_eq!(Scaling::read_unit(&unit, &mut work), Err(refused), "{header}");
+        assert_eq!(read_unit(&unit, &mut []), Err(refused), "{header}");
+        assert_eq!(work, [9; 4]);
+    }
 }

@@ -1,7 +1,7 @@
 //! Flags that are neither 0 nor 1, which only `raw` takes.
 
-use crate::made;
-use kendwyra::{raw, Alf, Lmcs, Scaling};
+use crate::made::{self, header};
+use kendwyra::{raw, Alf, Lmcs, Scaling, UnitHeader};
 use std::mem::{offset_of, MaybeUninit};
 use std::ops::Range;
 
@@ -65,7 +65,7 @@ pub fn scaling_flags() -> Vec<Range<usize>> {
 }
 
 type Write<S> = unsafe extern "C" fn(*const S, *mut u8, usize, &mut u64) -> u32;
-type WriteNal<S> = unsafe extern "C" fn(*const S, u8, *mut u8, usize, &mut u64) -> u32;
+type WriteNal<S> = unsafe extern "C" fn(*const S, UnitHeader, *mut u8, usize, &mut u64) -> u32;
 
 /// Each flag of each set is 2 and 255: 2, and 3 where the extension flag is 1; nothing is written.
 fn each_flag<S: Clone>(sets: [S; 2], flags: Vec<Range<usize>>, write: Write<S>, write_nal: WriteNal<S>) {
@@ -79,10 +79,16 @@ fn each_flag<S: Clone>(sets: [S; 2], flags: Vec<Range<usize>>, write: Write<S>, 
             // SAFETY: any bytes are lent as a set, and the array with its length.
             let code = unsafe { write(bytes.as_ptr(), to, room, &mut len) };
             assert_eq!((code, len), (due, 9), "{changes:?}");
-            for (unit_type, due) in [(17, due), (18, due), (16, 2)] {
+            for (header, due) in [
+                (header(17, 0, 1), due),
+                (header(18, 55, 7), due),
+                (header(16, 0, 1), 2),
+                (header(17, 56, 1), 2),
+                (header(18, 0, 0), 2),
+            ] {
                 // SAFETY: as above.
-                let code = unsafe { write_nal(bytes.as_ptr(), unit_type, to, room, &mut len) };
-                assert_eq!((code, len), (due, 9), "{changes:?} type {unit_type}");
+                let code = unsafe { write_nal(bytes.as_ptr(), header, to, room, &mut len) };
+                assert_eq!((code, len), (due, 9), "{changes:?} {header:?}");
             }
             assert_eq!(out, [0xAA; 6144]);
         };

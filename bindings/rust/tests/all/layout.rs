@@ -1,6 +1,6 @@
 //! The structs' sizes and the places of their fields, as a C compiler has them from include/kendwyra.h.
 
-use kendwyra::{Alf, Head, Lmcs, Scaling};
+use kendwyra::{Alf, Head, Lmcs, Scaling, UnitHeader};
 use std::mem::{align_of, offset_of, size_of, size_of_val};
 
 /// Checks a struct's size and alignment, and the offset and the size of each field; the fields are all that it has.
@@ -24,6 +24,16 @@ fn head() {
         aps_adaptation_parameter_set_id: 1, 1;
         aps_chroma_present_flag: 2, 1;
         aps_extension_flag: 3, 1;
+    }
+}
+
+#[test]
+fn unit_header() {
+    layout! {
+        UnitHeader: 3, 1;
+        nal_unit_type: 0, 1;
+        nuh_layer_id: 1, 1;
+        nuh_temporal_id_plus1: 2, 1;
     }
 }
 

@@ -1,6 +1,6 @@
-//! Full sets of each kind, with values that tell the places apart.
+//! Full sets of each kind, with values that tell the places apart, and headers of units.
 
-use kendwyra::{Alf, Aps, Kind, Lmcs, Scaling};
+use kendwyra::{Alf, Aps, Held, Kind, Lmcs, Scaling, UnitHeader};
 
 /// A row of magnitudes up to `most`, and signs for those that are not 0.
 fn row<const W: usize>(at: usize, most: usize) -> ([u32; W], [bool; W]) {
@@ -115,4 +115,26 @@ pub fn all() -> Vec<Aps> {
     let luma_mapping = ids(Kind::Lmcs).map(|id| Aps::Lmcs(lmcs(id)));
     let lists = ids(Kind::Scaling).map(|id| Aps::Scaling(scaling(id)));
     luma_filters.chain(luma_mapping).chain(lists).collect()
+}
+
+pub fn header(nal_unit_type: u8, nuh_layer_id: u8, nuh_temporal_id_plus1: u8) -> UnitHeader {
+    UnitHeader {
+        nal_unit_type,
+        nuh_layer_id,
+        nuh_temporal_id_plus1,
+    }
+}
+
+/// The same sets, each with a header of its own.
+pub fn held() -> Vec<Held<Aps>> {
+    let headers = (0..20).map(|i| header(17 + i % 2, 55 - i, 1 + i % 7));
+    let held = |(header, set)| Held { header, set };
+    headers.zip(all()).map(held).collect()
+}
+
+/// Whether a unit of a header is read and written.
+pub fn is_taken(header: UnitHeader) -> bool {
+    matches!(header.nal_unit_type, 17 | 18)
+        && header.nuh_layer_id < 56
+        && (1..8).contains(&header.nuh_temporal_id_plus1)
 }

@@ -1,9 +1,10 @@
 //! Marked bytes, short sequences whose meaning was fixed before the code, and RBSPs that end too early.
 
 use crate::bytes::{example, example_list, hex};
+use crate::made::header;
 use kendwyra::escapes::{ebsp_to_rbsp, rbsp_to_ebsp};
 use kendwyra::sets::{read, rewrite};
-use kendwyra::{Alf, Aps, Counts, Kind, Lmcs, Refusal, Scaling, Table};
+use kendwyra::{Alf, Aps, Counts, Held, Kind, Lmcs, Refusal, Scaling, Table, UnitHeader};
 
 fn one_bin() -> Lmcs {
     Lmcs {
@@ -74,7 +75,15 @@ fn stream_and_list() {
             passed_over: 0
         })
     );
-    assert_eq!(table.lookup(Kind::Alf, 0), Ok(Aps::Alf(Alf::default())));
-    assert_eq!(table.lookup(Kind::Lmcs, 0), Ok(Aps::Lmcs(one_bin())));
+    let alf = Held {
+        header: header(18, 0, 1),
+        set: Aps::Alf(Alf::default()),
+    };
+    assert_eq!(table.lookup(Kind::Alf, 0), Ok(alf));
+    let lmcs = Held {
+        header: UnitHeader::default(),
+        set: Aps::Lmcs(one_bin()),
+    };
+    assert_eq!(table.lookup(Kind::Lmcs, 0), Ok(lmcs));
     assert_eq!(table.list(), Ok(example_list()));
 }

@@ -1,10 +1,12 @@
 //! Random bytes, the same in each run: whole, and sets that are written with some bits flipped or cut off.
 
 use crate::flags::{alf_flags, lmcs_flags, scaling_flags};
-use crate::made;
+use crate::made::{self, header};
 use kendwyra::escapes::{ebsp_to_rbsp, rbsp_to_ebsp};
 use kendwyra::sets::{nal_header, read, read_unit, rewrite, write_unit};
-use kendwyra::{raw, Alf, Aps, Head, Kind, Lmcs, Refusal, Scaling, Table, Taken, LIST_BYTES, TABLE_BYTES};
+use kendwyra::{
+    raw, Alf, Aps, Head, Held, Kind, Lmcs, Refusal, Scaling, Table, Taken, UnitHeader, LIST_BYTES, TABLE_BYTES,
+};
 use std::fmt::Debug;
 use std::mem::MaybeUninit;
 use std::ops::Range;
@@ -170,7 +172,7 @@ fn rbsps() {
     assert!(taken > 500 && refused > 500, "{taken} and {refused}");
 }
 
-/// A unit of these bytes, of a type that is mostly 17 or 18.
+/// A unit of these bytes, mostly of a header that is read.
 fn unit(random: &mut Random, written: &[Vec<u8>]) -> Vec<u8> {
     let rbsp = random.changed(written);
     let mut unit = vec![0; 2 + rbsp.len() * 2];
@@ -182,9 +184,18 @@ fn unit(random: &mut Random, written: &[Vec<u8>]) -> Vec<u8> {
         _ => rbsp_to_ebsp(&rbsp, &mut unit[2..]).unwrap(),
     };
     unit.truncate(2 + len);
-    unit[0] = random.number() as u8;
-    unit[1] = [0x89, 0x91, 0x90, 0x8F, random.number() as u8][random.below(5)];
+    let end = [56, 56, 56, 56, 56, 256][random.below(6)];
+    unit[0] = random.below(end) as u8;
+    unit[1] = [0x89, 0x91, 0x8F, 0x97, 0x8C, random.number() as u8][random.below(6)];
     unit
+}
+
+/// A unit's header where it is read; none: both the table and the calls of a set refuse it or pass it over.
+fn header_read(unit: &[u8]) -> Option<UnitHeader> {
+    let read = nal_header(unit).unwrap();
+    let header = header(read.nal_unit_type, read.nuh_layer_id, read.nuh_temporal_id_plus1);
+    let zero_bits = (read.forbidden_zero_bit, read.nuh_reserved_zero_bit) == (0, 0);
+    (zero_bits && made::is_taken(header)).then_some(header)
 }
 
 #[test]
@@ -192,7 +203,7 @@ fn units() {
     let (mut random, written) = (Random(0xFEDC_BA98_7654_3211), written());
     let flags = [alf_flags(), lmcs_flags(), scaling_flags()];
     let mut table = Table::new();
-    let (mut taken, mut emptied) = (0, 0);
+    let (mut taken, mut emptied, mut headers_refused) = (0, 0, 0);
     for _ in 0..4_000 {
         let unit = unit(&mut random, &written);
         let mut works = [[0xAA; 6144]; 4];
@@ -229,16 +240,23 @@ fn units() {
         let before = table.clone();
         let answer = table.take_unit(&unit, &mut works[1]);
         let is_aps = matches!(nal_header(&unit).unwrap().nal_unit_type, 17 | 18);
-        match due {
-            Ok((set, _)) => {
+        match (due, header_read(&unit)) {
+            (Ok((set, _)), header) => {
                 taken += 1;
                 assert_eq!(answer, Ok(Taken::Accepted));
-                let (kind, id) = (set.kind(), set.aps_adaptation_parameter_set_id());
-                assert_eq!(table.head(kind, id), Ok(set.head()));
-                assert_eq!(table.lookup(kind, id), Ok(set));
+                let (header, kind, id) = (header.unwrap(), set.kind(), set.aps_adaptation_parameter_set_id());
+                let head = set.head();
+                assert_eq!(table.head(kind, id), Ok(Held { header, set: head }));
+                assert_eq!(table.lookup(kind, id), Ok(Held { header, set }));
             }
-            Err(_) if !is_aps => assert_eq!(answer, Ok(Taken::PassedOver)),
-            Err(why) => {
+            (Err(why), None) => {
+                headers_refused += usize::from(is_aps);
+                assert_eq!(why, Refusal::InvalidData);
+                assert_eq!(answer, if is_aps { Err(why) } else { Ok(Taken::PassedOver) });
+                assert_eq!(sets(&table), sets(&before));
+                assert_eq!(works[1], [0xAA; 6144]);
+            }
+            (Err(why), Some(_)) => {
                 assert_eq!(answer, Err(why));
                 let mut due = sets(&before);
                 let damaged = matches!(why, Refusal::UnexpectedEnd | Refusal::InvalidData);
@@ -252,6 +270,7 @@ fn units() {
     }
     assert!(taken > 500, "{taken}");
     assert!(emptied > 50, "{emptied}");
+    assert!(headers_refused > 100, "{headers_refused}");
 }
 
 /// The place, by kind and then id, that an RBSP's first byte names.
@@ -265,7 +284,7 @@ fn place(first: u8) -> Option<usize> {
 }
 
 /// Each place of a table.
-fn sets(table: &Table) -> Vec<Result<Aps, Refusal>> {
+fn sets(table: &Table) -> Vec<Result<Held<Aps>, Refusal>> {
     let places = Kind::ALL
         .into_iter()
         .flat_map(|kind| (0..=kind.max_id()).map(move |id| (kind, id)));
@@ -307,6 +326,7 @@ fn streams() {
                 let counts = second.take_stream(&list, &mut [0; LIST_BYTES]).unwrap();
                 assert_eq!((counts.refused, counts.passed_over), (0, 0));
                 assert_eq!(sets(&second), sets(&table));
+                assert_eq!(second.list(), Ok(list));
             }
             Err(why) => assert_eq!(why, Refusal::Unsupported),
         }
@@ -323,8 +343,8 @@ fn streams() {
 /// A table's bytes, with each of the 20 sets in its place.
 fn full_table() -> [u8; TABLE_BYTES] {
     let (mut table, mut unit, mut work) = ([0; TABLE_BYTES], [0; 6144], [0; 6144]);
-    for set in made::all() {
-        let len = set.write_unit(17, &mut unit).unwrap();
+    for Held { header, set } in made::held() {
+        let len = set.write_unit(header, &mut unit).unwrap();
         // SAFETY: the pointers are those of arrays, with lengths in them.
         let code = unsafe { raw::aps_take_unit(&mut table, unit.as_ptr(), len, work.as_mut_ptr(), work.len()) };
         assert_eq!(code, 0);
@@ -332,11 +352,23 @@ fn full_table() -> [u8; TABLE_BYTES] {
     table
 }
 
-/// Counts the set of a lookup in any bytes: 2 where the id has no place, else a set or 6.
-fn looked_up<S>(set: Result<S, Refusal>, no_place: bool) -> usize {
-    assert_eq!(set.as_ref().err() == Some(&Refusal::InvalidData), no_place);
-    assert!(no_place || set.is_ok() || set.as_ref().err() == Some(&Refusal::EmptyPlace));
-    usize::from(set.is_ok())
+const ONES: UnitHeader = UnitHeader {
+    nal_unit_type: 255,
+    nuh_layer_id: 255,
+    nuh_temporal_id_plus1: 255,
+};
+
+/// What a lookup in any bytes gives into ones: 2 where the id has no place, else a set with a header that is read, or 6.
+fn looked_up<S>(call: impl FnOnce(*mut UnitHeader) -> Result<S, Refusal>, no_place: bool) -> Option<UnitHeader> {
+    let mut header = ONES;
+    let refusal = call(&mut header).err();
+    if refusal.is_none() {
+        assert!(!no_place && made::is_taken(header));
+        return Some(header);
+    }
+    let due = [Refusal::EmptyPlace, Refusal::InvalidData][usize::from(no_place)];
+    assert_eq!((refusal, header), (Some(due), ONES));
+    None
 }
 
 /// Any bytes are some table.
@@ -358,21 +390,40 @@ fn tables() {
             table[bit / 8] ^= 1 << (bit % 8);
         }
         for id in 0..=9 {
-            // SAFETY: the table and a set are lent whole.
-            let alf = into_ones(&flags[0], |set| unsafe { raw::aps_alf_lookup(&table, id, set) });
-            // SAFETY: as above.
-            let lmcs = into_ones(&flags[1], |set| unsafe { raw::aps_lmcs_lookup(&table, id, set) });
-            // SAFETY: as above.
-            let scaling = into_ones(&flags[2], |set| unsafe { raw::aps_scaling_lookup(&table, id, set) });
-            found += looked_up(alf, id > 7) + looked_up(lmcs, id > 3) + looked_up(scaling, id > 7);
+            let (alf, lmcs, scaling) = (&flags[0], &flags[1], &flags[2]);
+            let held = [
+                looked_up(
+                    // SAFETY: the table, a set and a header are lent whole.
+                    |header| into_ones(alf, |set| unsafe { raw::aps_alf_lookup(&table, id, set, header) }),
+                    id > 7,
+                ),
+                looked_up(
+                    // SAFETY: as above.
+                    |header| into_ones(lmcs, |set| unsafe { raw::aps_lmcs_lookup(&table, id, set, header) }),
+                    id > 3,
+                ),
+                looked_up(
+                    // SAFETY: as above.
+                    |header| {
+                        into_ones(scaling, |set| unsafe {
+                            raw::aps_scaling_lookup(&table, id, set, header)
+                        })
+                    },
+                    id > 7,
+                ),
+            ];
+            found += held.iter().flatten().count();
             for kind in 0..4 {
-                let mut head = [255u8; 4];
-                // SAFETY: a head's four bytes have no alignment, and these are not taken for one.
-                let code = unsafe { raw::aps_head_lookup(&table, kind, id, head.as_mut_ptr().cast()) };
+                let (mut head, mut header) = ([255u8; 4], ONES);
+                // SAFETY: a head's four bytes have no alignment, and these are not taken for one; the header is lent whole.
+                let code = unsafe { raw::aps_head_lookup(&table, kind, id, head.as_mut_ptr().cast(), &mut header) };
                 match code {
                     0 => assert!(head[..2] == [kind, id] && head[2] <= 1 && head[3] <= 1),
                     _ => assert_eq!(head, [255; 4]),
                 }
+                let due = held.get(usize::from(kind)).copied().flatten();
+                assert_eq!((code == 0).then_some(header), due);
+                assert!(code == 0 || header == ONES);
             }
         }
         let (mut out, mut len) = (vec![0xAA; LIST_BYTES], 0);
@@ -435,6 +486,11 @@ fn writing() {
                 _ => set.scaling_list[at % 28][at % 64] = number as i32,
             },
         }
+        let unit_header = header(
+            17 + random.below(2) as u8,
+            random.below(56) as u8,
+            1 + random.below(7) as u8,
+        );
         let (mut out, mut unit) = ([0xAA; 6144], [0xAA; 6144]);
         match set.write(&mut out) {
             Ok(len) => {
@@ -442,13 +498,14 @@ fn writing() {
                 let (again, end) = read(&out[..len]).unwrap();
                 assert_eq!(end, len * 8, "{round}");
                 assert_eq!(again.head(), set.head());
-                let unit_len = write_unit(&set, 17, &mut unit).unwrap();
+                let unit_len = write_unit(&set, unit_header, &mut unit).unwrap();
+                assert_eq!(header_read(&unit), Some(unit_header));
                 assert_eq!(read_unit(&unit[..unit_len], &mut [0; 6144]), Ok((again, end)));
             }
             Err(why) => {
                 refused += 1;
                 assert_eq!(why, Refusal::InvalidData);
-                assert_eq!(write_unit(&set, 17, &mut unit), Err(why));
+                assert_eq!(write_unit(&set, unit_header, &mut unit), Err(why));
                 assert_eq!((out, unit), ([0xAA; 6144], [0xAA; 6144]));
             }
         }

@@ -4,7 +4,7 @@ use crate::bytes::hex;
 use crate::made;
 use kendwyra::escapes::{ebsp_to_rbsp, rbsp_to_ebsp};
 use kendwyra::sets::{nal_header, read, read_unit, rewrite, write};
-use kendwyra::{Alf, Aps, Head, Kind, Lmcs, Refusal, Scaling, Table, LONGEST_INPUT};
+use kendwyra::{Alf, Aps, Head, Kind, Lmcs, Refusal, Scaling, Table, UnitHeader, LONGEST_INPUT};
 
 #[test]
 fn numbers_and_words() {
@@ -36,7 +36,16 @@ fn units() {
     let rows = [
         ("00", 1),
         ("00 81", 2),
+        ("80 89", 2),
+        ("40 89", 2),
+        ("38 89", 2),
+        ("00 88", 2),
+        ("80 89 00 10", 2),
+        ("40 89 00 10", 2),
+        ("38 89 00 10", 2),
+        ("00 90 00 10", 2),
         ("00 89", 1),
+        ("37 97", 1),
         ("00 89 24", 1),
         ("00 89 24 00", 2),
         ("00 89 60 00", 3),
@@ -58,7 +67,7 @@ fn another_kind() {
     for set in made::all() {
         let (mut rbsp, mut unit, mut work) = ([0; 4096], [0; 6144], [0; 6144]);
         let len = set.write(&mut rbsp).unwrap();
-        let unit_len = set.write_unit(17, &mut unit).unwrap();
+        let unit_len = set.write_unit(UnitHeader::default(), &mut unit).unwrap();
         let (rbsp, unit) = (&rbsp[..len], &unit[..unit_len]);
         let wrong = Refusal::InvalidData;
         let of = |kind, set: Aps| {

@@ -1,8 +1,8 @@
 //! Sets written and read back.
 
-use crate::made;
+use crate::made::{self, header};
 use kendwyra::sets::{read, read_unit, rewrite, write, write_unit, NAL_TYPE_PREFIX_APS, NAL_TYPE_SUFFIX_APS};
-use kendwyra::{Alf, Aps, Lmcs, Refusal, Scaling};
+use kendwyra::{Alf, Aps, Held, Lmcs, Refusal, Scaling, UnitHeader};
 
 #[test]
 fn read_back() {
@@ -18,14 +18,51 @@ fn read_back() {
 
 #[test]
 fn read_back_as_a_unit() {
-    for set in made::all() {
-        for unit_type in [NAL_TYPE_PREFIX_APS, NAL_TYPE_SUFFIX_APS] {
+    for Held { header, set } in made::held() {
+        for nal_unit_type in [NAL_TYPE_PREFIX_APS, NAL_TYPE_SUFFIX_APS] {
+            let header = UnitHeader {
+                nal_unit_type,
+                ..header
+            };
             let (mut unit, mut work) = ([0; 6144], [0; 6144]);
-            let len = write_unit(&set, unit_type, &mut unit).unwrap();
-            assert_eq!(unit[..2], [0, unit_type * 8 + 1]);
+            let len = write_unit(&set, header, &mut unit).unwrap();
+            let second = nal_unit_type * 8 + header.nuh_temporal_id_plus1;
+            assert_eq!(unit[..2], [header.nuh_layer_id, second]);
             let (again, end) = read_unit(&unit[..len], &mut work).unwrap();
             assert_eq!(again, set);
             assert_eq!(write(&set, &mut work), Ok(end / 8));
+        }
+    }
+}
+
+#[test]
+fn headers() {
+    let mut unit = [0; 8];
+    let small = Aps::Alf(Alf::default());
+    assert_eq!(write_unit(&small, UnitHeader::default(), &mut unit), Ok(4));
+    assert_eq!(unit, [0x00, 0x89, 0x00, 0x10, 0, 0, 0, 0]);
+    for set in [
+        small,
+        Aps::Lmcs(made::lmcs(1)),
+        Aps::Scaling(made::scaling(1)),
+        Aps::Alf(made::alf(1)),
+    ] {
+        for nal_unit_type in [0, 16, 17, 18, 19, 31, 49, 255] {
+            for nuh_layer_id in [0, 1, 54, 55, 56, 63, 64, 128, 255] {
+                for nuh_temporal_id_plus1 in [0, 1, 2, 7, 8, 255] {
+                    let header = header(nal_unit_type, nuh_layer_id, nuh_temporal_id_plus1);
+                    let mut unit = [0xAA; 6144];
+                    let written = write_unit(&set, header, &mut unit);
+                    if !made::is_taken(header) {
+                        assert_eq!(written, Err(Refusal::InvalidData), "{header:?}");
+                        assert_eq!(unit, [0xAA; 6144]);
+                        continue;
+                    }
+                    let unit = &unit[..written.unwrap()];
+                    assert_eq!(unit[..2], [nuh_layer_id, nal_unit_type * 8 + nuh_temporal_id_plus1]);
+                    assert_eq!(read_unit(unit, &mut [0; 6144]).map(|(set, _)| set).as_ref(), Ok(&set));
+                }
+            }
         }
     }
 }
@@ -61,7 +98,10 @@ fn values_that_are_not_written() {
     scaling(|set| set.scaling_list[2][1] = i32::MIN);
     scaling(|set| set.scaling_list_dc_coef[12] = 128);
     let set = Aps::Lmcs(made::lmcs(0));
-    assert_eq!(write_unit(&set, 16, &mut [0; 64]), Err(Refusal::InvalidData));
+    assert_eq!(
+        write_unit(&set, header(16, 0, 1), &mut [0; 64]),
+        Err(Refusal::InvalidData)
+    );
 }
 
 #[test]
@@ -85,7 +125,12 @@ fn an_extension_is_not_written() {
     scaling.aps_extension_flag = true;
     for set in [Aps::Alf(alf), Aps::Lmcs(lmcs), Aps::Scaling(scaling)] {
         assert_eq!(write(&set, &mut [0; 64]), Err(Refusal::Unsupported));
-        assert_eq!(write_unit(&set, 17, &mut [0; 64]), Err(Refusal::Unsupported));
-        assert_eq!(write_unit(&set, 255, &mut [0; 64]), Err(Refusal::InvalidData));
+        assert_eq!(
+            write_unit(&set, UnitHeader::default(), &mut [0; 64]),
+            Err(Refusal::Unsupported)
+        );
+        for wrong in [header(255, 0, 1), header(17, 56, 1), header(18, 0, 8)] {
+            assert_eq!(write_unit(&set, wrong, &mut [0; 64]), Err(Refusal::InvalidData));
+        }
     }
 }

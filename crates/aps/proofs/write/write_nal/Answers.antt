@@ -1,50 +1,61 @@
--- `write_nal`: type and length are judged, then the escaped bytes stand after the header's two, if there is room for both.
+-- `write_nal`: header and length are judged, then the escaped bytes stand after the header's two, if there is room for both.
 use Rattle.std.proofs.Common.{rules, Err}
 use mathlib.Core.Path.{◌≡◌, sym, ◌∙◌}
 use mathlib.Core.Bool.{true}
 use native.Mathlib.Omega.{arith}
-use Rattle.aps.specs.Unit.{is_aps}
-use Rattle.aps.proofs.UnitWrites.{answered-as, answer-exit, unit-type, unit-long, unit-due, unit-short, unit-within, unit-put, unit-refused}
+use Rattle.aps.specs.Unit.{is_aps_header}
+use Rattle.aps.proofs.UnitWrites.{answered-as, answer-exit, unit-header, unit-long, unit-due, unit-short, unit-within, unit-put, unit-refused}
+use Rattle.aps.proofs.UnitSteps.{aps-within}
 use Rattle.aps.proofs.write.write_nal.Goals as goal
 use Rattle.aps.proofs.write.write_nal.Goals.{Else-not-is_aps}
 
--- what was judged: the type is one of a set's
-judged : (c : Else-not-is_aps) → is_aps c.args.unit_type ≡ true
+-- what was judged: the header is one of an APS unit
+judged : (c : Else-not-is_aps) → is_aps_header c.args.header ≡ true
 judged c =
     sym c.is_aps.ensures ∙ c.if-not-is_aps.false
 
 pub returns-then-not-is_aps : goal.returns-then-not-is_aps
 returns-then-not-is_aps c =
     let a = c.args in
-    let r = unit-type a.out.now a.rbsp.now a.unit_type (sym c.is_aps.ensures ∙ c.if-not-is_aps.true) in record { answer = r.0; bytes = r.1 }
+    let r = unit-header a.out.now a.rbsp.now a.header (sym c.is_aps.ensures ∙ c.if-not-is_aps.true) in record { answer = r.0; bytes = r.1 }
 
 pub returns-in_err-input : goal.returns-in_err-input
 returns-in_err-input c =
     let a = c.args in
     let k = c.in_err-input.ensures.err in
     let e : c.from_residual.result ≡ Err c.in_err-input.field-0.0 = search rules in
-    let r = unit-long a.out.now a.rbsp.now a.unit_type (judged (goal.at.returns-in_err-input c).Else-not-is_aps) k.1 in
+    let r = unit-long a.out.now a.rbsp.now a.header (judged (goal.at.returns-in_err-input c).Else-not-is_aps) k.1 in
     rw (e, k.0) (record { answer = r.0; bytes = r.1 })
 
 pub returns-then-out-lt2 : goal.returns-then-out-lt2
 returns-then-out-lt2 c =
     let a = c.args in
-    let r = answered-as a.out.now (unit-due a.out.now a.rbsp.now a.unit_type (judged (goal.at.returns-then-out-lt2 c).Else-not-is_aps) c.in_ok-input.ensures.short) (unit-short a.out.now a.rbsp.now a.unit_type (omega arith)) in record { answer = r.0; bytes = r.1 }
+    let r = answered-as a.out.now (unit-due a.out.now a.rbsp.now a.header (judged (goal.at.returns-then-out-lt2 c).Else-not-is_aps) c.in_ok-input.ensures.short) (unit-short a.out.now a.rbsp.now a.header (omega arith)) in record { answer = r.0; bytes = r.1 }
+
+pub overflow_mul-out : goal.overflow_mul-out
+overflow_mul-out c =
+    let (s, t, l, i, j) = aps-within c.args.header (judged (goal.at.overflow_mul-out c).Else-not-is_aps) in
+    record { fits = omega arith }
+
+pub overflow_add-out : goal.overflow_add-out
+overflow_add-out c =
+    let (s, t, l, i, j) = aps-within c.args.header (judged (goal.at.overflow_add-out c).Else-not-is_aps) in
+    record { fits = omega arith }
 
 pub overflow_add-result : goal.overflow_add-result
 overflow_add-result c =
     let a = c.args in
-    omega (arith, unit-within a.out.now a.rbsp.now a.unit_type (omega arith) c.in_ok-input.ensures.short _ _ (rw c.in_ok-input.ensures.ok at c.in_ok-n.ensures.answer), c.well_formed)
+    omega (arith, unit-within a.out.now a.rbsp.now a.header (omega arith) c.in_ok-input.ensures.short _ _ (rw c.in_ok-input.ensures.ok at c.in_ok-n.ensures.answer), c.well_formed)
 
 pub returns : goal.returns
 returns c =
     let a = c.args in
-    let r = answered-as a.out.now (unit-due a.out.now a.rbsp.now a.unit_type (judged (goal.at.returns c).Else-not-is_aps) c.in_ok-input.ensures.short)
-    (unit-put a.out.now a.rbsp.now a.unit_type (omega arith) c.in_ok-input.ensures.short _ _ (rw c.in_ok-input.ensures.ok at c.in_ok-n.ensures.answer)) in record { answer = r.0; bytes = r.1 }
+    let r = answered-as a.out.now (unit-due a.out.now a.rbsp.now a.header (judged (goal.at.returns c).Else-not-is_aps) c.in_ok-input.ensures.short)
+    (unit-put a.out.now a.rbsp.now a.header (omega arith) c.in_ok-input.ensures.short _ _ (rw c.in_ok-input.ensures.ok at c.in_ok-n.ensures.answer)) in record { answer = r.0; bytes = r.1 }
 
 pub returns-in_err-n : goal.returns-in_err-n
 returns-in_err-n c =
     let a = c.args in
     let r = answer-exit c.args.out.now _ _ c.from_residual-in_err-n.ensures.1
-    (answered-as a.out.now (unit-due a.out.now a.rbsp.now a.unit_type (judged (goal.at.returns-in_err-n c).Else-not-is_aps) c.in_ok-input.ensures.short)
-    (unit-refused a.out.now a.rbsp.now a.unit_type (omega arith) c.in_ok-input.ensures.short _ _ (rw c.in_ok-input.ensures.ok at c.in_err-n.ensures.answer) (rw c.in_ok-input.ensures.ok at c.rbsp_to_ebsp.ensures.bytes))) in record { answer = r.0; bytes = r.1 }
+    (answered-as a.out.now (unit-due a.out.now a.rbsp.now a.header (judged (goal.at.returns-in_err-n c).Else-not-is_aps) c.in_ok-input.ensures.short)
+    (unit-refused a.out.now a.rbsp.now a.header (omega arith) c.in_ok-input.ensures.short _ _ (rw c.in_ok-input.ensures.ok at c.in_err-n.ensures.answer) (rw c.in_ok-input.ensures.ok at c.rbsp_to_ebsp.ensures.bytes))) in record { answer = r.0; bytes = r.1 }

@@ -8,7 +8,8 @@ use Rattle.aps.specs.ApsSyntax.{number_of}
 use Rattle.aps.proofs.RbspLaws.{rbsp-end}
 use Rattle.aps_table.specs.List.{joined}
 use Rattle.aps_table.specs.Inner.{so_far}
-use Rattle.aps_table.proofs.PlaceSteps.{names-of, place-few, place-bytes}
+use Rattle.aps_table.proofs.PlaceSteps.{names-of, place-few, place-rest}
+use Rattle.aps_table.proofs.ListLaws.{held-some}
 use Rattle.aps_table.proofs.HeldSteps.{held-extended, held_plain}
 use Rattle.aps_table.proofs.list.CutList.put_place.Goals as goal
 
@@ -19,19 +20,21 @@ returns-then-reading c =
 
 pub slice_bounds-put_unit-end : goal.slice_bounds-put_unit-end
 slice_bounds-put_unit-end c =
-    sym (length-take-le (c.in-Some.reading.end / 8) c.bytes.result.now (omega (arith, rbsp-end _ _ _ c.in-Some.ensures.read, ap length c.bytes.ensures)))
+    sym (length-take-le (c.in-Some.own.set.end / 8) c.rbsp.result.now (omega (arith, rbsp-end _ _ _ c.in-Some.ensures.read, ap length c.rbsp.ensures)))
 
 pub put_unit-requires : goal.put_unit-requires
 put_unit-requires c =
     let p = c.args.place in
-    let w = place-few c.args.table.now _ (number_of p.kind) p.id (names-of p.kind p.id p.named) c.bytes.ensures in
-    let l = length-take (c.in-Some.reading.end / 8) c.bytes.result.now in
-    (omega (arith, c.requires, w.0, l), omega (arith, w.1, l))
+    let w = place-few c.args.table.now _ (number_of p.kind) p.id (names-of p.kind p.id p.named) c.rbsp.ensures in
+    let l = length-take (c.in-Some.own.set.end / 8) c.rbsp.result.now in
+    let o = c.in-Some.ensures in
+    let (s, m, g) = held-some c.args.table.now _ _ _ o.held-is in
+    (omega (arith, c.requires, w.0, l), (omega (arith, w.1, l), rw o.header-is g))
 
 pub returns : goal.returns
 returns c =
     let p = c.args.place in
     let o = c.in-Some.ensures in
     let x = ap (λ h. h.aps_extension_flag) (sym o.is) ∙ c.if-reading.false in
-    let w = held_plain _ _ _ o.read o.held-is x (place-bytes c.args.table.now (number_of p.kind) p.id c.fits-table) in
-    rw c.bytes.ensures at c.put_unit.ensures ∙ ap (joined (so_far c.args.self.now)) (sym w)
+    let w = held_plain _ _ _ o.read o.held-is x (place-rest c.args.table.now (number_of p.kind) p.id c.fits-table) in
+    rw (c.rbsp.ensures, o.header-is) at c.put_unit.ensures ∙ ap (joined (so_far c.args.self.now)) (sym w)
