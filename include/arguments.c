@@ -8,7 +8,8 @@
 #include <stdlib.h>
 #include <string.h>
 
-enum { UNTOUCHED = 0xAA, ROOM = 6144, RBSP = 4096 };
+/* RBSP and ROOM: no RBSP and no unit that is made here is longer, but for those over 65,536 bytes. */
+enum { UNTOUCHED = 0xAA, RBSP = APS_LONGEST_RBSP + 64, ROOM = 2 + RBSP + RBSP / 2 };
 
 static long failures;
 
@@ -204,11 +205,32 @@ static int are_flags(const calls *k, const uint8_t *set)
 
 static aps_alf alf;
 static aps_lmcs lmcs;
-static aps_scaling scaling;
+static aps_scaling scaling, longest;
 static const void *const full[3] = {&alf, &lmcs, &scaling};
+
+/* How many steps of `longest` take 13 bits: it has just 2,048 bytes, and 2,049 with one more. */
+enum { LONGER_STEPS = 1244 };
 
 static uint8_t rbsps[6][RBSP], units[3][ROOM];
 static size_t rbsp_len[6], unit_len[3];
+
+/* Lists of steps up and down, so many of 13 bits and then of 11; the last two lists are copied. */
+static void fill_steps(aps_scaling *set, int longer)
+{
+    set->aps_chroma_present_flag = 1;
+    set->scaling_list_copy_mode_flag[26] = 1;
+    set->scaling_list_copy_mode_flag[27] = 1;
+    for (int list = 0; list < 26; list++) {
+        int entries = list < 2 ? 4 : list < 8 ? 16 : 64, sum = 0;
+
+        for (int i = 0; i < entries; i++) {
+            int step = longer-- > 0 ? 40 : 20;
+
+            sum += i % 2 ? -step : step;
+            set->scaling_list[list][i] = sum;
+        }
+    }
+}
 
 static void fill_sets(void)
 {
@@ -279,6 +301,7 @@ static void fill_sets(void)
             scaling.scaling_list[list][i] = sum;
         }
     }
+    fill_steps(&longest, LONGER_STEPS);
 }
 
 static void write_sets(void)
@@ -359,6 +382,7 @@ static reading read_rbsp(const uint8_t *from, size_t len)
 
     r.code = aps_head_parse_rbsp(bytes, len, &r.head, end);
     r.end = end[0];
+    check("too long or not", r.code == APS_INPUT_TOO_LONG, len > APS_LONGEST_RBSP);
     one_head(&r);
     due = r.code ? r.code : r.head.aps_extension_flag ? APS_UNSUPPORTED : 0;
     for (int i = 0; i < 3; i++) {
@@ -410,14 +434,35 @@ static reading read_rbsp(const uint8_t *from, size_t len)
     return r;
 }
 
-/* A unit through every call that reads one, with a work buffer of its length less 2, and one byte shorter. */
+/* Whether a place holds no set. */
+static int is_empty(const uint8_t *table, uint8_t kind, uint8_t id)
+{
+    aps_head head;
+    aps_unit_header header;
+
+    return aps_head_lookup(table, kind, id, &head, &header) == APS_EMPTY_PLACE;
+}
+
+/* Whether an RBSP's first byte names a place. */
+static int names_place(uint8_t first)
+{
+    return first / 32 <= APS_SCALING && first % 32 <= kinds[first / 32].most_id;
+}
+
+/* Whether an RBSP that is refused so empties the place that it names. */
+static int empties(uint32_t code)
+{
+    return code == APS_UNEXPECTED_END || code == APS_INVALID_DATA || code == APS_INPUT_TOO_LONG;
+}
+
+/* A unit through every call that reads one: without a work buffer, and with one as long as its RBSP or a byte shorter. */
 static reading read_unit(const uint8_t *from, size_t len, uint8_t *table)
 {
-    uint8_t *unit = lend_copy(from, len), *first = NULL, header[5] = {9, 9, 9, 9, 9};
-    size_t room = len > 2 ? len - 2 : 0;
+    uint8_t *unit = lend_copy(from, len), *rbsp = lend(len), header[5] = {9, 9, 9, 9, 9};
+    uint64_t rbsp_bytes[1] = {0};
     reading r = {0, {0, 0, 0, 0}, 0};
     uint32_t code;
-    int passed = len >= 2 && !is_aps(from[1] / 8), read = len >= 2 && is_taken(header_of(from));
+    int passed = len >= 2 && !is_aps(from[1] / 8), accepted = len >= 2 && is_taken(header_of(from)), too_long;
 
     code = aps_parse_nal_header(unit, len, header);
     check("header", code, len < 2 ? APS_UNEXPECTED_END : 0);
@@ -428,47 +473,48 @@ static reading read_unit(const uint8_t *from, size_t len, uint8_t *table)
         check("layer", header[2], from[0] % 64);
         check("type", header[3], from[1] / 8);
         check("temporal id plus one", header[4], from[1] % 8);
+        check("its RBSP", aps_ebsp_to_rbsp(unit + 2, len - 2, rbsp, len - 2, rbsp_bytes), 0);
     }
-    for (int shorter = room > 0; shorter >= 0; shorter--) {
-        uint8_t *work = lend(room - (size_t)shorter), *before;
+    too_long = rbsp_bytes[0] > APS_LONGEST_RBSP;
+    for (int lent = 0; lent < 3; lent++) {
+        size_t most = (size_t)rbsp_bytes[0], room = lent == 2 ? most : lent == 1 && most ? most - 1 : 0;
+        int is_read = accepted && !too_long && room == most;
+        uint8_t *first = lend(room), *work, *before;
         uint64_t end[1] = {77};
 
         r.head = (aps_head){UNTOUCHED, UNTOUCHED, UNTOUCHED, UNTOUCHED};
-        r.code = aps_head_parse(unit, len, work, room - (size_t)shorter, &r.head, end);
+        r.code = aps_head_parse(unit, len, first, room, &r.head, end);
         r.end = end[0];
         one_head(&r);
         if (len < 2) {
             check("no unit", r.code, APS_UNEXPECTED_END);
-        } else if (!read) {
+        } else if (!accepted) {
             check("another header", r.code, APS_INVALID_DATA);
-        } else if (shorter) {
+        } else if (too_long) {
+            check("too long an RBSP", r.code, APS_INPUT_TOO_LONG);
+        } else if (!is_read) {
             check("a short work buffer", r.code, APS_OUTPUT_TOO_SHORT);
+        } else {
+            check("neither", r.code != APS_INPUT_TOO_LONG && r.code != APS_OUTPUT_TOO_SHORT, 1);
         }
-        if (!read || shorter) {
-            check("no work", untouched(work, 0, room - (size_t)shorter), 1);
-        }
-        first = work;
+        check("work", is_read ? same(first, rbsp, room) : untouched(first, 0, room), 1);
         for (int i = 0; i < 3; i++) {
             const calls *k = &kinds[i];
             uint8_t *set = lend(k->size);
 
-            work = lend(room - (size_t)shorter);
+            work = lend(room);
             end[0] = 77;
-            code = k->parse(unit, len, work, room - (size_t)shorter, set, end);
+            code = k->parse(unit, len, work, room, set, end);
             one_kind(k, &r, code, set, end[0]);
-            check("the same work", same(work, first, room - (size_t)shorter), 1);
+            check("the same work", same(work, first, room), 1);
             free(set);
             free(work);
         }
-        work = lend(room - (size_t)shorter);
+        work = lend(room);
         before = lend_copy(table, APS_TABLE_BYTES);
-        code = aps_take_unit(table, unit, len, work, room - (size_t)shorter);
+        code = aps_take_unit(table, unit, len, work, room);
         check("taken", code, passed ? (uint32_t)APS_PASSED_OVER : r.code);
-        check("the work of it", same(work, first, room - (size_t)shorter), 1);
-        check("a table that stays", (read && !shorter) || same(table, before, APS_TABLE_BYTES), 1);
-        free(before);
-        free(work);
-        free(first);
+        check("the work of it", same(work, first, room), 1);
         if (code == 0) {
             aps_head held;
             aps_unit_header kept;
@@ -476,9 +522,17 @@ static reading read_unit(const uint8_t *from, size_t len, uint8_t *table)
             check("held", aps_head_lookup(table, r.head.kind, r.head.aps_adaptation_parameter_set_id, &held, &kept), 0);
             check("the same head", memcmp(&held, &r.head, sizeof held), 0);
             check("its header", same_header(kept, header_of(from)), 1);
+        } else if (accepted && len > 2 && empties(code) && names_place(from[2])) {
+            check("an empty place", is_empty(table, from[2] / 32, from[2] % 32), 1);
+        } else {
+            check("a table that stays", same(table, before, APS_TABLE_BYTES), 1);
         }
+        free(before);
+        free(work);
+        free(first);
     }
     free(unit);
+    free(rbsp);
     return r;
 }
 
@@ -616,17 +670,17 @@ static void one_short(void)
         aps_table_new(table);
         memcpy(stream, (const uint8_t[]){0, 0, 1}, 3);
         memcpy(stream + 3, units[i], unit_len[i]);
-        out = lend(unit_len[i] + 3);
-        code = aps_take_stream(table, stream, unit_len[i] + 3, out, unit_len[i] + 2, counts);
+        out = lend(rbsp_len[i]);
+        code = aps_take_stream(table, stream, unit_len[i] + 3, out, rbsp_len[i] - 1, counts);
         check("a stream's work buffer", code, APS_OUTPUT_TOO_SHORT);
         check("counts kept", counts[0] == 9 && counts[1] == 9 && counts[2] == 9, 1);
-        check("work kept", untouched(out, 0, unit_len[i] + 3), 1);
-        code = aps_take_stream(table, stream, unit_len[i] + 2, out, unit_len[i] + 3, counts);
+        check("work kept", untouched(out, 0, rbsp_len[i]), 1);
+        code = aps_take_stream(table, stream, unit_len[i] + 2, out, rbsp_len[i], counts);
         check("a stream cut off", code, 0);
         check("its unit refused", counts[0] == 0 && counts[1] == 1 && counts[2] == 0, 1);
         free(write_list(table, &list_len));
         check("no set of it", (long long)list_len, 0);
-        check("a whole stream", aps_take_stream(table, stream, unit_len[i] + 3, out, unit_len[i] + 3, counts), 0);
+        check("a whole stream", aps_take_stream(table, stream, unit_len[i] + 3, out, rbsp_len[i], counts), 0);
         check("its unit taken", counts[0] == 1 && counts[1] == 0 && counts[2] == 0, 1);
         check("its RBSP", same(out, rbsps[i], rbsp_len[i]), 1);
         list = write_list(table, &list_len);
@@ -681,10 +735,202 @@ static void too_long(void)
         check("nothing of it", untouched(out, 0, 2 * LONG) && len[0] == 77, 1);
     }
     memset(bytes, 0, LONG);
-    check("as long as is taken", aps_take_stream(table, bytes, APS_LONGEST_INPUT, out, APS_LONGEST_INPUT, counts), 0);
+    check("as long as is taken", aps_take_stream(table, bytes, APS_LONGEST_INPUT, NULL, 0, counts), 0);
+    bytes[1] = 0x89;
+    check("its RBSP", aps_take_unit(table, bytes, APS_LONGEST_INPUT, NULL, 0), APS_INPUT_TOO_LONG);
+    check("escaped", aps_rbsp_to_ebsp(bytes, APS_LONGEST_INPUT, out, 2 * LONG, len), 0);
+    check("unescaped", aps_ebsp_to_rbsp(bytes, APS_LONGEST_INPUT, out, 2 * LONG, len), 0);
     free(table);
     free(bytes);
     free(out);
+}
+
+/* ---- RBSPs of 2,048 bytes and of one more, and the work buffers of streams */
+
+/* A small set of a kind and an id, followed by one byte again and again, and by 80: in a stream no unit ends in a zero. */
+static void fill_rbsp(uint8_t *rbsp, size_t len, int kind, int id, uint8_t byte)
+{
+    memset(rbsp, byte, len);
+    memcpy(rbsp, rbsps[3 + kind], rbsp_len[3 + kind]);
+    rbsp[0] = (uint8_t)(kind * 32 + id);
+    rbsp[len - 1] = 0x80;
+}
+
+/* An RBSP as a unit of a header, and its length. */
+static size_t fill_unit(uint8_t unit[ROOM], const uint8_t *rbsp, size_t len, aps_unit_header header)
+{
+    uint64_t escaped[1] = {0};
+
+    unit[0] = header.nuh_layer_id;
+    unit[1] = (uint8_t)(header.nal_unit_type * 8 + header.nuh_temporal_id_plus1);
+    check("escapes", aps_rbsp_to_ebsp(rbsp, len, unit + 2, ROOM - 2, escaped), 0);
+    return 2 + (size_t)escaped[0];
+}
+
+/* A start code and a unit put into a stream; where they end. */
+static size_t add_unit(uint8_t *stream, size_t at, const uint8_t *unit, size_t len)
+{
+    memcpy(stream + at, (const uint8_t[]){0, 0, 1}, 3);
+    memcpy(stream + at + 3, unit, len);
+    return at + 3 + len;
+}
+
+/* A table with a small set in each place. */
+static uint8_t *full_table(void)
+{
+    uint8_t *table = lend(APS_TABLE_BYTES), unit[6] = {0, 0x89}, work[4];
+
+    aps_table_new(table);
+    for (int i = 0; i < 3; i++) {
+        memcpy(unit + 2, rbsps[3 + i], rbsp_len[3 + i]);
+        for (int id = 0; id <= kinds[i].most_id; id++) {
+            unit[2] = (uint8_t)(i * 32 + id);
+            check("a small set taken", aps_take_unit(table, unit, 2 + rbsp_len[3 + i], work, rbsp_len[3 + i]), 0);
+        }
+    }
+    return table;
+}
+
+/* How many places hold a set. */
+static int sets_in(const uint8_t *table)
+{
+    int held = 0;
+
+    for (uint8_t kind = 0; kind < 3; kind++) {
+        for (uint8_t id = 0; id <= kinds[kind].most_id; id++) {
+            held += !is_empty(table, kind, id);
+        }
+    }
+    return held;
+}
+
+static void longest_rbsps(void)
+{
+    enum { LEN = APS_LONGEST_RBSP };
+    static const uint8_t after[] = {0x00, 0x01, 0x03, 0xFF};
+    static uint8_t rbsp[LEN + 1], unit[ROOM], stream[ROOM + 3];
+    uint64_t counts[3];
+
+    for (int kind = 0; kind < 3; kind++) {
+        for (size_t i = 0; i < sizeof after; i++) {
+            uint8_t *table = full_table(), *work = lend(LEN);
+            size_t len, end;
+
+            fill_rbsp(rbsp, LEN, kind, 1, after[i]);
+            check("as long as is read", read_rbsp(rbsp, LEN).code, 0);
+            len = fill_unit(unit, rbsp, LEN, headers[kind]);
+            check("its unit", read_unit(unit, len, table).code, 0);
+            end = add_unit(stream, 0, unit, len);
+            check("its stream", aps_take_stream(table, stream, end, work, LEN, counts), 0);
+            check("taken", counts[0] == 1 && same(work, rbsp, LEN), 1);
+            check("a byte less", aps_take_stream(table, stream, end, work, LEN - 1, counts), APS_OUTPUT_TOO_SHORT);
+            check("all places", sets_in(table), 20);
+
+            fill_rbsp(rbsp, LEN + 1, kind, 1, after[i]);
+            check("longer by one", read_rbsp(rbsp, LEN + 1).code, APS_INPUT_TOO_LONG);
+            len = fill_unit(unit, rbsp, LEN + 1, headers[kind]);
+            check("a longer unit", read_unit(unit, len, table).code, APS_INPUT_TOO_LONG);
+            check("all places but one", is_empty(table, (uint8_t)kind, 1) && sets_in(table) == 19, 1);
+            free(table);
+            table = full_table();
+            memset(work, UNTOUCHED, LEN);
+            end = add_unit(stream, 0, unit, len);
+            check("a longer unit's stream", aps_take_stream(table, stream, end, NULL, 0, counts), 0);
+            check("a unit refused", counts[0] == 0 && counts[1] == 1 && counts[2] == 0, 1);
+            check("its place emptied", is_empty(table, (uint8_t)kind, 1) && sets_in(table) == 19, 1);
+            check("the same stream", aps_take_stream(table, stream, end, work, LEN, counts), 0);
+            check("no work for it", untouched(work, 0, LEN), 1);
+            unit[0] = 56;
+            check("of a refused header", read_unit(unit, len, table).code, APS_INVALID_DATA);
+            free(table);
+            free(work);
+        }
+    }
+}
+
+/* Units with too long an RBSP under every first byte, and the same in a unit of over 65,536 bytes. */
+static void each_first_byte(void)
+{
+    uint8_t *unit = lend(APS_LONGEST_INPUT + 1), *work = lend(APS_LONGEST_INPUT);
+
+    unit[0] = 0;
+    unit[1] = 0x89;
+    for (int first = 0; first < 256; first++) {
+        static const size_t lens[] = {2 + APS_LONGEST_RBSP + 1, APS_LONGEST_INPUT, APS_LONGEST_INPUT + 1};
+
+        unit[2] = (uint8_t)first;
+        for (size_t i = 0; i < 3; i++) {
+            uint8_t *table = full_table();
+            int emptied = names_place(unit[2]) && lens[i] <= APS_LONGEST_INPUT;
+            uint32_t code = aps_take_unit(table, unit, lens[i], work, i ? APS_LONGEST_INPUT : 0);
+
+            check("too long", code, APS_INPUT_TOO_LONG);
+            check("places left", sets_in(table), 20 - emptied);
+            check("the place emptied", !emptied || is_empty(table, unit[2] / 32, unit[2] % 32), 1);
+            free(table);
+        }
+    }
+    check("work kept", untouched(work, 0, APS_LONGEST_INPUT), 1);
+    free(unit);
+    free(work);
+}
+
+/* Streams need work buffers of the longest RBSP that they read, and of no byte where they read none. */
+static void work_buffers(void)
+{
+    static const uint8_t unread[][6] = {
+        {0, 9, 7, 7, 7, 7},                /* another type */
+        {56, 0x89, 0, 0x10, 0xFF, 0xFF},   /* a layer that is refused */
+        {0, 0x88, 0, 0x10, 0xFF, 0xFF},    /* a temporal id plus one */
+        {0x80, 0x89, 0, 0x10, 0xFF, 0xFF}, /* a forbidden bit */
+        {0, 0x89},                         /* a header alone */
+        {7},                               /* under 2 bytes */
+    };
+    static const size_t unread_len[] = {6, 6, 6, 6, 2, 1}, read_len[] = {2, 3, 4, 5, 100, 2047, 2048};
+    static uint8_t stream[4 * ROOM], rbsp[RBSP], unit[ROOM], longer[ROOM];
+    uint8_t *table = full_table(), *before, *work;
+    uint64_t counts[3] = {9, 9, 9};
+    size_t len = 0, longer_len;
+
+    check("no unit", aps_take_stream(table, (const uint8_t[]){0, 0, 0, 0}, 4, NULL, 0, counts), 0);
+    for (size_t i = 0; i < sizeof unread_len / sizeof *unread_len; i++) {
+        len = add_unit(stream, len, unread[i], unread_len[i]);
+        check("nothing to read", aps_take_stream(table, stream, len, NULL, 0, counts), 0);
+        check("its counts", counts[0] == 0 && counts[1] == i && counts[2] == 1, 1);
+    }
+    fill_rbsp(rbsp, APS_LONGEST_RBSP + 1, APS_LMCS, 2, 0);
+    longer_len = fill_unit(longer, rbsp, APS_LONGEST_RBSP + 1, headers[0]);
+    len = add_unit(stream, len, longer, longer_len);
+    check("one too long to read", aps_take_stream(table, stream, len, NULL, 0, counts), 0);
+    check("refused too", counts[0] == 0 && counts[1] == 6 && counts[2] == 1, 1);
+    check("its place", is_empty(table, APS_LMCS, 2), 1);
+
+    for (size_t i = 0; i < sizeof read_len / sizeof *read_len; i++) {
+        size_t all = len, bytes = read_len[i];
+
+        fill_rbsp(rbsp, bytes, APS_ALF, 3, 0);
+        if (bytes == 2) {
+            rbsp[1] = 0x10;
+        }
+        all = add_unit(stream, all, unit, fill_unit(unit, rbsp, bytes, headers[0]));
+        all = add_unit(stream, all, (const uint8_t[]){0, 9}, 2);
+        all = add_unit(stream, all, (const uint8_t[]){0, 0x89, 0, 0x10}, 4);
+        before = lend_copy(table, APS_TABLE_BYTES);
+        work = lend(bytes);
+        counts[0] = 9;
+        check("one short", aps_take_stream(table, stream, all, work, bytes - 1, counts), APS_OUTPUT_TOO_SHORT);
+        check("none", aps_take_stream(table, stream, all, NULL, 0, counts), APS_OUTPUT_TOO_SHORT);
+        check("as before", same(table, before, APS_TABLE_BYTES) && untouched(work, 0, bytes) && counts[0] == 9, 1);
+        check("enough", aps_take_stream(table, stream, all, work, bytes, counts), 0);
+        check("two units more", counts[0] == 2 && counts[1] == 6 && counts[2] == 2, 1);
+        check("the last RBSP", work[0] == 0 && work[1] == 0x10 && same(work + 2, rbsp + 2, bytes - 2), 1);
+        stream[0] = 1;
+        check("a wrong split first", aps_take_stream(table, stream, all, NULL, 0, counts), APS_INVALID_DATA);
+        stream[0] = 0;
+        free(before);
+        free(work);
+    }
+    free(table);
 }
 
 /* ---- flags that are neither 0 nor 1 */
@@ -748,6 +994,63 @@ static void wrong_flags(void)
         write_all(k, set, 0);
         free(set);
     }
+}
+
+/* ---- sets whose RBSP has 2,048 bytes and one more */
+
+/* A set into room for it and into no room and one byte: its refusal comes before 5, and that of the header before it. */
+static void write_long(const aps_scaling *set, uint32_t due)
+{
+    const calls *k = &kinds[APS_SCALING];
+    uint8_t out[1] = {UNTOUCHED};
+    uint64_t len[1] = {77};
+    uint32_t short_due = due ? due : (uint32_t)APS_OUTPUT_TOO_SHORT;
+
+    write_all(k, (const uint8_t *)set, due);
+    for (size_t room = 0; room < 2; room++) {
+        check("a short output", k->write(set, out, room, len), short_due);
+        check("a unit's too", k->write_nal(set, headers[1], out, room, len), short_due);
+        check("a refused header", k->write_nal(set, (aps_unit_header){17, 56, 1}, out, room, len), APS_INVALID_DATA);
+    }
+    check("not written", untouched(out, 0, 1) && len[0] == 77, 1);
+}
+
+static void longest_sets(void)
+{
+    static uint8_t rbsp[APS_LONGEST_RBSP];
+    aps_scaling *set = (aps_scaling *)(void *)lend_copy((const uint8_t *)&longest, sizeof longest);
+    uint64_t len[1] = {77};
+
+    check("the longest set", aps_scaling_write(set, rbsp, APS_LONGEST_RBSP, len), 0);
+    check("its bytes", (long long)len[0], APS_LONGEST_RBSP);
+    len[0] = 77;
+    check("one short", aps_scaling_write(set, rbsp, APS_LONGEST_RBSP - 1, len), APS_OUTPUT_TOO_SHORT);
+    check("read again", read_rbsp(rbsp, APS_LONGEST_RBSP).code, 0);
+    write_long(set, 0);
+    for (int longer = LONGER_STEPS + 1; longer <= LONGER_STEPS + 12; longer++) {
+        fill_steps(set, longer);
+        write_long(set, APS_INPUT_TOO_LONG);
+        check("with room for 2,048 bytes", aps_scaling_write(set, rbsp, APS_LONGEST_RBSP, len), APS_INPUT_TOO_LONG);
+    }
+    /* Steps out of range, before and behind the 2,048th byte; a flag; the extension. */
+    set->scaling_list[0][0] = 128;
+    write_long(set, APS_INVALID_DATA);
+    set->scaling_list[0][0] = 40;
+    write_long(set, APS_INPUT_TOO_LONG);
+    set->scaling_list[25][63] = -200;
+    write_long(set, APS_INVALID_DATA);
+    set->aps_extension_flag = 1;
+    write_long(set, APS_UNSUPPORTED);
+    set->aps_extension_flag = 0;
+    set->scaling_list[25][63] = 0;
+    write_long(set, APS_INPUT_TOO_LONG);
+    set->scaling_list_pred_mode_flag[27] = 2;
+    write_long(set, APS_INVALID_DATA);
+    set->scaling_list_pred_mode_flag[27] = 0;
+    set->scaling_list_copy_mode_flag[25] = 1;
+    write_long(set, 0);
+    check("length kept", (long long)len[0], 77);
+    free(set);
 }
 
 /* ---- headers of any bytes */
@@ -817,11 +1120,19 @@ static void randomly(uint8_t *bytes, size_t len)
     }
 }
 
-/* Random bytes that mostly name a kind, or a set's with up to two bits flipped and sometimes cut off; how many. */
+/* Random bytes that mostly name a kind, a small set and what makes some 2,048 bytes of it, or a set's with up to two bits
+ * flipped and sometimes cut off; how many. */
 static size_t random_rbsp(uint8_t bytes[RBSP])
 {
     size_t len, set = below(6);
 
+    if (below(8) == 0) {
+        static const uint8_t after[] = {0x00, 0x03, 0xFF};
+
+        len = APS_LONGEST_RBSP - 8 + below(16);
+        fill_rbsp(bytes, len, (int)(set % 3), (int)below(5), after[below(3)]);
+        return len;
+    }
     if (below(4) == 0) {
         len = below(200);
         randomly(bytes, len);
@@ -841,7 +1152,7 @@ static size_t random_rbsp(uint8_t bytes[RBSP])
 }
 
 /* A unit of such bytes, mostly of a header that is read and with escapes. */
-static size_t random_unit(uint8_t unit[ROOM + 2])
+static size_t random_unit(uint8_t unit[ROOM])
 {
     static uint8_t rbsp[RBSP];
     size_t len = random_rbsp(rbsp);
@@ -851,7 +1162,7 @@ static size_t random_unit(uint8_t unit[ROOM + 2])
     if (below(3)) {
         uint64_t escaped[1] = {0};
 
-        check("escapes", aps_rbsp_to_ebsp(rbsp, len, unit + 2, ROOM, escaped), 0);
+        check("escapes", aps_rbsp_to_ebsp(rbsp, len, unit + 2, ROOM - 2, escaped), 0);
         check("at most half more", escaped[0] <= len + len / 2, 1);
         return 2 + (size_t)escaped[0];
     }
@@ -885,12 +1196,34 @@ static void random_escapes(void)
     free(rbsp);
 }
 
+/* The shortest work buffer with which a stream is not refused with 5. */
+static size_t least_room(const uint8_t *table, const uint8_t *stream, size_t len)
+{
+    size_t least = 0, enough = APS_LONGEST_RBSP;
+
+    while (least < enough) {
+        size_t room = (least + enough) / 2;
+        uint8_t *copy = lend_copy(table, APS_TABLE_BYTES), *work = lend(room);
+        uint64_t counts[3];
+
+        if (aps_take_stream(copy, stream, len, work, room, counts) == APS_OUTPUT_TOO_SHORT) {
+            check("a copy that stays", same(copy, table, APS_TABLE_BYTES) && untouched(work, 0, room), 1);
+            least = room + 1;
+        } else {
+            enough = room;
+        }
+        free(copy);
+        free(work);
+    }
+    return least;
+}
+
 static void random_stream(uint8_t *table)
 {
-    static uint8_t made[8 * (ROOM + 6)];
+    static uint8_t made[8 * (ROOM + 4)];
     uint8_t *stream, *work, *before = lend_copy(table, APS_TABLE_BYTES), *second = lend(APS_TABLE_BYTES), *list, *again;
-    uint64_t counts[3] = {9, 9, 9};
-    size_t len = 0, list_len, again_len, units_in = below(6);
+    uint64_t counts[3] = {9, 9, 9}, as_many[3] = {9, 9, 9};
+    size_t len = 0, list_len, again_len, units_in = below(6), least;
     uint32_t code;
 
     if (below(8) == 0) {
@@ -903,22 +1236,29 @@ static void random_stream(uint8_t *table)
         len += random_unit(made + len);
     }
     stream = lend_copy(made, len);
-    work = lend(len);
-    code = aps_take_stream(table, stream, len, work, len, counts);
+    least = least_room(table, stream, len);
+    work = lend(least);
+    code = aps_take_stream(table, stream, len, work, least, counts);
     check("a random stream", code == 0 || code == APS_INVALID_DATA, 1);
     if (code) {
         check("a table that stays", same(table, before, APS_TABLE_BYTES), 1);
-        check("a work buffer that stays", untouched(work, 0, len), 1);
+        check("a work buffer that stays", least == 0, 1);
         check("counts that stay", counts[0] == 9 && counts[1] == 9 && counts[2] == 9, 1);
     }
+    free(work);
+    work = lend(APS_LONGEST_RBSP);
+    check("with more work", aps_take_stream(before, stream, len, work, APS_LONGEST_RBSP, as_many), code);
+    check("the same table", same(table, before, APS_TABLE_BYTES), 1);
+    check("the same counts", counts[0] == as_many[0] && counts[1] == as_many[1] && counts[2] == as_many[2], 1);
+    check("no more work", untouched(work, least, APS_LONGEST_RBSP), 1);
     free(stream);
     free(work);
 
     look_up_all(table);
     list = write_list(table, &list_len);
     aps_table_new(second);
-    work = lend(list_len);
-    check("a list taken", aps_take_stream(second, list, list_len, work, list_len, counts), 0);
+    work = lend(APS_LONGEST_RBSP);
+    check("a list taken", aps_take_stream(second, list, list_len, work, APS_LONGEST_RBSP, counts), 0);
     check("all of it", counts[1] == 0 && counts[2] == 0, 1);
     look_up_all(second);
     again = write_list(second, &again_len);
@@ -936,16 +1276,16 @@ static void random_stream(uint8_t *table)
 /* Any bytes as a table, a full one with bits flipped among them. */
 static void random_table(void)
 {
-    static uint8_t unit[ROOM + 2];
+    static uint8_t unit[ROOM];
     uint8_t *table = lend(APS_TABLE_BYTES);
     size_t len;
 
     if (below(3)) {
-        uint8_t *work = lend(ROOM);
+        uint8_t *work = lend(APS_LONGEST_RBSP);
 
         aps_table_new(table);
         for (int i = 0; i < 3; i++) {
-            check("a unit into it", aps_take_unit(table, units[i], unit_len[i], work, ROOM), 0);
+            check("a unit into it", aps_take_unit(table, units[i], unit_len[i], work, APS_LONGEST_RBSP), 0);
         }
         free(work);
         for (size_t flips = below(400); flips; flips--) {
@@ -989,7 +1329,8 @@ static void random_set(const calls *k, const void *full_set)
     } else if (!are_flags(k, set)) {
         check("a flag", code, APS_INVALID_DATA);
     } else {
-        check("written or not", code == 0 || code == APS_INVALID_DATA, 1);
+        check("written or not", code == 0 || code == APS_INVALID_DATA || full_set == &longest, 1);
+        check("or too long", code == 0 || code == APS_INVALID_DATA || code == APS_INPUT_TOO_LONG, 1);
     }
     written("a random set", code, code, out, ROOM, len[0]);
     if (code == 0) {
@@ -1007,7 +1348,7 @@ static void random_set(const calls *k, const void *full_set)
 
 static void at_random(long rounds)
 {
-    static uint8_t rbsp[RBSP], unit[ROOM + 2];
+    static uint8_t rbsp[RBSP], unit[ROOM];
     uint8_t *table = lend(APS_TABLE_BYTES);
     long taken = 0, refused = 0;
 
@@ -1022,6 +1363,7 @@ static void at_random(long rounds)
         if (i % 4 == 0) {
             random_stream(table);
             random_set(&kinds[i / 4 % 3], full[i / 4 % 3]);
+            random_set(&kinds[APS_SCALING], &longest);
         }
         if (i % 16 == 0) {
             random_table();
@@ -1039,7 +1381,11 @@ int main(int argc, char **argv)
     nothing();
     one_short();
     too_long();
+    longest_rbsps();
+    each_first_byte();
+    work_buffers();
     wrong_flags();
+    longest_sets();
     read_headers();
     write_headers();
     at_random(argc > 1 ? atol(argv[1]) : 2000);

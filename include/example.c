@@ -19,7 +19,7 @@ static const uint8_t list[] = {0, 0, 0, 1, 0x00, 0x91, 0x00, 0x10, 0, 0, 0, 1, 0
 
 static uint8_t table[APS_TABLE_BYTES];
 static uint8_t second[APS_TABLE_BYTES];
-static uint8_t work[APS_LONGEST_INPUT];
+static uint8_t work[APS_LONGEST_RBSP];
 static uint8_t out[APS_LIST_BYTES];
 static aps_alf alf;
 static aps_lmcs lmcs;
@@ -83,10 +83,32 @@ static void one_set(void)
     check("the same unit", len[0] == 5 && memcmp(out, stream + 4, 5) == 0, 1);
     check("out of the unit", aps_lmcs_parse(out, 5, work, sizeof work, &lmcs, end), 0);
     check("bit again", end[0], 24);
+    check("read without work", aps_lmcs_parse(out, 5, NULL, 0, &lmcs, end), APS_OUTPUT_TOO_SHORT);
+    check("with as many bytes as its RBSP", aps_lmcs_parse(out, 5, work, 3, &lmcs, end), 0);
     check("a layer", aps_lmcs_write_nal(&lmcs, layered, out, sizeof out, len), 0);
     check("its header", out[0] == 55 && out[1] == 18 * 8 + 7, 1);
     check("escaped", aps_rbsp_to_ebsp((const uint8_t[]){0, 0, 1}, 3, out, sizeof out, len), 0);
     check("four bytes", len[0], 4);
+}
+
+/* A unit whose RBSP has 2,048 bytes, a small set and what follows it, and then one more. */
+static void longest_rbsp(void)
+{
+    uint8_t *unit = long_input;
+    uint64_t end[1] = {77};
+    aps_head head;
+    aps_unit_header header;
+
+    aps_table_new(table);
+    memset(unit, 0xFF, 2 + APS_LONGEST_RBSP + 1);
+    memcpy(unit, stream + 13, 4);
+    check("as long as is read", aps_take_unit(table, unit, 2 + APS_LONGEST_RBSP, work, sizeof work), 0);
+    check("held", aps_head_lookup(table, APS_ALF, 0, &head, &header), 0);
+    check("its end", aps_alf_parse_rbsp(unit + 2, APS_LONGEST_RBSP, &alf, end) == 0 && end[0] == 16, 1);
+    check("longer by one", aps_alf_parse_rbsp(unit + 2, APS_LONGEST_RBSP + 1, &alf, end), APS_INPUT_TOO_LONG);
+    check("a longer unit", aps_take_unit(table, unit, 2 + APS_LONGEST_RBSP + 1, NULL, 0), APS_INPUT_TOO_LONG);
+    check("held no more", aps_head_lookup(table, APS_ALF, 0, &head, &header), APS_EMPTY_PLACE);
+    memset(unit, 0, 2 + APS_LONGEST_RBSP + 1);
 }
 
 /* Null with length 0, and lengths and flags that are wrong: a number each, never a fault. arguments.c has more. */
@@ -110,7 +132,9 @@ static void refused(void)
     check("nothing to escape", aps_rbsp_to_ebsp(NULL, 0, NULL, 0, len), 0);
     check("empty list", aps_write_list(table, NULL, 0, len), 0);
     check("no byte of it", len[0], 0);
-    check("short work buffer", aps_take_stream(table, stream, sizeof stream, work, sizeof stream - 1, counts), APS_OUTPUT_TOO_SHORT);
+    check("short work buffer", aps_take_stream(table, stream, sizeof stream, work, 2, counts), APS_OUTPUT_TOO_SHORT);
+    check("a stream without sets", aps_take_stream(table, (const uint8_t[]){0, 0, 1, 0, 9}, 5, NULL, 0, counts), 0);
+    check("its unit", counts[0] == 0 && counts[1] == 0 && counts[2] == 1, 1);
     check("a byte before the first unit", aps_take_stream(table, stream + 4, 5, work, sizeof work, counts), APS_INVALID_DATA);
     check("another type", aps_take_unit(table, (const uint8_t[]){0, 9}, 2, work, sizeof work), APS_PASSED_OVER);
     check("layer 56", aps_take_unit(table, (const uint8_t[]){56, 0x89, 0x00, 0x10}, 4, work, sizeof work), APS_INVALID_DATA);
@@ -129,6 +153,7 @@ int main(void)
 {
     sets_in_force();
     one_set();
+    longest_rbsp();
     refused();
     if (failures == 0) {
         puts("all as the header says");

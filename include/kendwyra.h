@@ -19,7 +19,7 @@ enum {
     APS_UNEXPECTED_END = 1,   /* a unit under 2 bytes; an RBSP that ends before its set does: cut off */
     APS_INVALID_DATA = 2,     /* a wrong header, kind, id, flag, range, stop bit, padding or stream split; no place */
     APS_UNSUPPORTED = 3,      /* a kind 3 to 7; extension flag 1 to write */
-    APS_INPUT_TOO_LONG = 4,   /* an input over 65,536 bytes */
+    APS_INPUT_TOO_LONG = 4,   /* an input over 65,536 bytes; a set's RBSP over 2,048, read or written */
     APS_OUTPUT_TOO_SHORT = 5, /* a work buffer or an output that is too short */
     APS_EMPTY_PLACE = 6       /* the lookup of an empty place */
 };
@@ -31,9 +31,10 @@ enum { APS_PASSED_OVER = 256 };
 enum { APS_ALF = 0, APS_LMCS = 1, APS_SCALING = 2 };
 
 enum {
-    APS_TABLE_BYTES = 30292,   /* a table, which the caller keeps */
-    APS_LIST_BYTES = 45492,    /* no list is longer */
-    APS_LONGEST_INPUT = 65536  /* the longest stream, unit or RBSP */
+    APS_TABLE_BYTES = 23228,   /* a table, which the caller keeps */
+    APS_LIST_BYTES = 34900,    /* no list is longer */
+    APS_LONGEST_INPUT = 65536, /* the longest stream or unit, and the longest input of the escapes' calls */
+    APS_LONGEST_RBSP = 2048    /* the longest RBSP of a set; a work buffer of so many bytes always suffices */
 };
 
 /* Sets: a struct for each kind, the fields by H.266's names. A flag is 0 or 1; what is not sent is 0 or inferred. */
@@ -111,15 +112,17 @@ typedef struct aps_unit_header {
 void aps_table_new(uint8_t table[APS_TABLE_BYTES]);
 
 /* A stream in the byte stream form: how many units were accepted, refused and passed over. 4; 2; 5: the work buffer is
- * shorter than the stream. The work buffer starts with the RBSP of the last APS unit that was read; a refused stream
- * leaves it and the table as they were. Units that are refused are counted; one with a damaged RBSP empties a place, as
- * below. */
+ * shorter than the longest RBSP that is read, of the APS units whose header is accepted and whose RBSP is not too long; a
+ * stream without one needs none. The work buffer starts with the RBSP of the last APS unit that was read; a refused stream
+ * leaves it and the table as they were. Units that are refused are counted; one whose RBSP is damaged or too long empties a
+ * place, as below. */
 uint32_t aps_take_stream(uint8_t table[APS_TABLE_BYTES], const uint8_t *bytes, size_t len, uint8_t *work, size_t room,
                          uint64_t counts[3]);
 
-/* A unit alone, without a start code: 0, APS_PASSED_OVER or a refusal. 5: the work buffer is shorter than the unit less 2.
- * A unit that is refused with 1 or 2 after its header empties the place that its RBSP's first byte names (kind * 32 + id):
- * what it should have replaced is out of date. A refused header empties none, and leaves the work buffer. */
+/* A unit alone, without a start code: 0, APS_PASSED_OVER or a refusal. 4; 1 and 2 of the header; 4: the RBSP is over 2,048
+ * bytes; 5: the work buffer is shorter than the RBSP; then the RBSP. A unit whose RBSP is refused with 1, 2 or 4 empties the
+ * place that the RBSP's first byte names (kind * 32 + id): what it should have replaced is out of date. A unit over 65,536
+ * bytes, a refused header, 3 and 5 empty none. Unless its RBSP is read, the work buffer stays as it was. */
 uint32_t aps_take_unit(uint8_t table[APS_TABLE_BYTES], const uint8_t *unit, size_t len, uint8_t *work, size_t room);
 
 /* Of the set held for a kind and an id the kind, the id and the flags, and its unit's header. 2: they name no place; 6: the
@@ -140,10 +143,11 @@ uint32_t aps_write_list(const uint8_t table[APS_TABLE_BYTES], uint8_t *out, size
 /* ---- one set */
 
 /* Of a set out of its RBSP the kind, the id and the flags, and the bit where reading ended: the whole set is read. An RBSP's
- * first three bits are its kind. */
+ * first three bits are its kind. 4 first: it is over 2,048 bytes, those after the set counted. */
 uint32_t aps_head_parse_rbsp(const uint8_t *bytes, size_t len, aps_head *head, uint64_t end[1]);
 
-/* The same out of a unit; its RBSP goes to the start of the work buffer. */
+/* The same out of a unit; its RBSP goes to the start of the work buffer. 4, 1 and 2 of the header, then 4 and 5, as
+ * for a unit alone. */
 uint32_t aps_head_parse(const uint8_t *unit, size_t len, uint8_t *work, size_t room, aps_head *head, uint64_t end[1]);
 
 /* A set of a kind out of its RBSP, and the bit where reading ended. 2 also for a set of another kind. */
@@ -157,7 +161,8 @@ uint32_t aps_lmcs_parse(const uint8_t *unit, size_t len, uint8_t *work, size_t r
 uint32_t aps_scaling_parse(const uint8_t *unit, size_t len, uint8_t *work, size_t room, aps_scaling *set,
                            uint64_t end[1]);
 
-/* A set as an RBSP, and its length. 3: extension flag 1; 2 also for a flag that is neither 0 nor 1; 5. */
+/* A set as an RBSP, and its length. 3: extension flag 1; 2 also for a flag that is neither 0 nor 1; 4: it is over 2,048
+ * bytes; 5. */
 uint32_t aps_alf_write(const aps_alf *set, uint8_t *out, size_t room, uint64_t len[1]);
 uint32_t aps_lmcs_write(const aps_lmcs *set, uint8_t *out, size_t room, uint64_t len[1]);
 uint32_t aps_scaling_write(const aps_scaling *set, uint8_t *out, size_t room, uint64_t len[1]);

@@ -14,9 +14,11 @@ use crate::library::Field;
 use crate::{nal, BitstreamError};
 
 /// Refusals that the Rust does not have: it takes inputs of any length, any start and width, and any header of an APS unit's type, and its
-/// outputs grow. 4 is a long input, 2 a far start, a wide field or such a header, 5 a short output or work buffer; in this order.
+/// outputs grow. 4 is a long input, 2 a far start, a wide field or such a header, 4 again a long RBSP, 5 a short output or work buffer; in
+/// this order.
 pub mod document {
     pub const LONGEST: usize = 65_536;
+    pub const LONGEST_RBSP: usize = 2_048;
     pub const FARTHEST: usize = 1_048_576;
     pub const WIDEST: u32 = 32;
     pub const LAST_LAYER: u8 = 55;
@@ -37,6 +39,14 @@ pub mod document {
 
     pub fn escape(len: usize) -> Result<(), u32> {
         if len > LONGEST {
+            return Err(4);
+        }
+        Ok(())
+    }
+
+    /// The length without escapes; every byte counts, those after the stop bit too.
+    pub fn rbsp(len: usize) -> Result<(), u32> {
+        if len > LONGEST_RBSP {
             return Err(4);
         }
         Ok(())

@@ -5,8 +5,10 @@ mod changes;
 
 use crate::bit_writer::BitWriter;
 use crate::expected;
+use crate::expected::document::LONGEST_RBSP;
 use crate::h266::aps;
 use crate::random::Random;
+use crate::sets::long::scaling;
 use crate::sets::make::{Maker, Style, STYLES};
 use crate::sets::{extended, flip};
 
@@ -47,6 +49,7 @@ fn sample() -> Vec<Case> {
     cases.extend(lmcs_limits());
     cases.extend(scaling_limits());
     cases.extend(full_sets());
+    cases.extend(around_the_longest());
     cases.extend(any_sets());
     cases
 }
@@ -289,7 +292,17 @@ fn full_sets() -> Vec<Case> {
         let rbsp = aps::write_aps(&set).expect("a set in range is written");
         case(format!("{}, full", KINDS[kind]), &rbsp)
     };
-    vec![full(0), full(1), full(2)]
+    vec![full(0), full(1)]
+}
+
+/// Scaling lists of the longest RBSP that is read, and of one byte more.
+fn around_the_longest() -> Vec<Case> {
+    let mut random = Random::new(18);
+    let mut of = |len| aps::write_aps(&scaling(&mut random, len)).expect("a set in range is written");
+    vec![
+        case("scaling, 2,048 bytes", &of(LONGEST_RBSP)),
+        case("scaling, 2,049 bytes", &of(LONGEST_RBSP + 1)),
+    ]
 }
 
 /// Sets of every kind and style, whole, with extension flag 1, with a bit flipped, and cut; none is long.

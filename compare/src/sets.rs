@@ -1,9 +1,11 @@
 //! Sets read from RBSPs and from units, compared at scale.
 
+pub mod long;
 pub mod make;
 mod units;
 
 use crate::expected;
+use crate::expected::document::LONGEST_RBSP;
 use crate::h266::aps;
 use crate::library::sets::{kind_of, Answer, Lent};
 use crate::random::Random;
@@ -16,7 +18,8 @@ pub fn compare() -> Vec<Tally> {
         random_rbsps(),
         written_rbsps(),
         cut_rbsps(),
-        flipped_and_long_rbsps(),
+        flipped_rbsps(),
+        long::long_rbsps(),
     ];
     rows.extend(units::compare());
     rows
@@ -133,7 +136,7 @@ fn written_and_damaged(random: &mut Random, good: Vec<u8>) -> Vec<Vec<u8>> {
 }
 
 fn written(random: &mut Random, kind: u8, round: usize) -> Vec<u8> {
-    let style = STYLES[round % 4];
+    let style = STYLES[round % STYLES.len()];
     let set = Maker { random, style }.set(kind);
     aps::write_aps(&set).expect("a set in range is written")
 }
@@ -153,7 +156,7 @@ fn written_rbsps() -> Tally {
     t
 }
 
-/// A set that is cut gets 1, whatever is missing. With extension flag 1 it may be whole without its last byte.
+/// A set that is cut gets 1, whatever is missing, or 4 if it is still too long. With extension flag 1 it may be whole without its last byte.
 fn cut_rbsps() -> Tally {
     let mut t = Tally::new("sets cut after every byte");
     let mut random = Random::new(18);
@@ -164,7 +167,8 @@ fn cut_rbsps() -> Tally {
             for len in 0..good.len() {
                 let cut = &good[..len];
                 let asked = || format!("cut RBSP {cut:02X?}");
-                t.same(asked, lent.parse_rbsp(kind.into(), cut), Err(1));
+                let refusal = if len > LONGEST_RBSP { 4 } else { 1 };
+                t.same(asked, lent.parse_rbsp(kind.into(), cut), Err(refusal));
                 rbsp(&mut t, &mut lent, &extended(&good)[..len]);
             }
         }
@@ -172,23 +176,21 @@ fn cut_rbsps() -> Tally {
     t
 }
 
-fn flipped_and_long_rbsps() -> Tally {
-    let mut t = Tally::new("sets: each bit flipped, and 65,530 to 65,540 bytes");
+/// Also of a set of the longest RBSP.
+fn flipped_rbsps() -> Tally {
+    let mut t = Tally::new("sets: each bit flipped");
     let mut random = Random::new(12);
     let mut lent = Lent::new();
+    let mut sets = vec![aps::write_aps(&long::scaling(&mut random, LONGEST_RBSP)).expect("a set in range is written")];
     for round in 0..24 {
-        for kind in 0..3 {
-            let good = written(&mut random, kind, round);
-            for bytes in [extended(&good), good] {
-                for bit in 0..bytes.len() * 8 {
-                    let mut damaged = bytes.clone();
-                    flip(&mut damaged, bit);
-                    rbsp(&mut t, &mut lent, &damaged);
-                }
-                for len in 65_530..=65_540 {
-                    let long = [&bytes[..], &random.bytes(len - bytes.len())].concat();
-                    rbsp(&mut t, &mut lent, &long);
-                }
+        sets.extend([0, 1, 2].map(|kind| written(&mut random, kind, round)));
+    }
+    for good in sets {
+        for bytes in [extended(&good), good] {
+            for bit in 0..bytes.len() * 8 {
+                let mut damaged = bytes.clone();
+                flip(&mut damaged, bit);
+                rbsp(&mut t, &mut lent, &damaged);
             }
         }
     }

@@ -1,21 +1,43 @@
-//! A table and a plain model of it get the same calls: every short stream, and random sequences of calls with lookups and cuts in between.
+//! A table and a plain model of it get the same calls: every short stream, units and streams around the limits of length, and random
+//! sequences of calls with lookups and cuts in between.
 
+mod long;
 mod make;
 mod sequences;
 mod streams;
 
 use crate::expected;
+use crate::expected::table::names;
 use crate::library::sets::Lent;
 use crate::library::table::Table;
 use crate::tally::Tally;
 
 pub fn compare() -> Vec<Tally> {
-    let mut rows = Vec::from(streams::every_short_stream());
+    let mut named = Named::new("streams");
+    let mut rows = vec![streams::every_short_stream(&mut named)];
+    rows.extend(long::units_and_streams(&mut named));
+    rows.extend(named.0);
     rows.extend(sequences::random_sequences());
     rows
 }
 
+/// Lookups of places that a refused unit named, a row for each cause.
+struct Named([Tally; 4]);
+
+impl Named {
+    fn new(of: &str) -> Self {
+        let row = |what| Tally::new(format!("{of}: {what}"));
+        Named([
+            row("places emptied, RBSP damaged"),
+            row("places emptied, RBSP too long"),
+            row("places kept, header refused"),
+            row("places kept, unit too long"),
+        ])
+    }
+}
+
 /// A table of the library's, and what it must be.
+#[derive(Clone)]
 struct Both {
     library: Table,
     expected: expected::table::Table,
@@ -40,7 +62,7 @@ impl Both {
             (
                 (
                     self.expected.take_unit(unit, &mut expected),
-                    !self.expected.emptied.is_empty(),
+                    self.expected.named.iter().any(|(why, _)| why.empties()),
                 ),
                 expected,
             ),
@@ -62,19 +84,20 @@ impl Both {
         );
     }
 
-    /// A lookup of each place that the last call emptied of a set: 6, unless a later unit of a stream filled it again.
-    fn emptied(&mut self, t: &mut Tally, lent: &mut Lent, number: u64) {
-        for name in std::mem::take(&mut self.expected.emptied) {
-            self.lookup(t, lent, number, name);
+    /// A lookup of each place that a refused unit of the last call emptied of a set, which gets 6 unless a later unit of a stream filled it
+    /// again, and of each that one left filled, unless a later one emptied it.
+    fn named(&mut self, rows: &mut Named, lent: &mut Lent, number: u64) {
+        for (why, (kind, id)) in std::mem::take(&mut self.expected.named) {
+            if why.empties() || self.expected.held(kind, id).is_ok() {
+                self.lookup(&mut rows.0[why as usize], lent, number, (kind, id));
+            }
         }
     }
 
-    /// A lookup of each place that is still filled after a unit of the last call was refused for its header and named it with a damaged RBSP.
-    fn kept(&mut self, t: &mut Tally, lent: &mut Lent, number: u64) {
-        for (kind, id) in std::mem::take(&mut self.expected.kept) {
-            if self.expected.held(kind, id).is_ok() {
-                self.lookup(t, lent, number, (kind, id));
-            }
+    /// A lookup of each of the 20 places.
+    fn places(&self, t: &mut Tally, lent: &mut Lent, number: u64) {
+        for name in names() {
+            self.lookup(t, lent, number, name);
         }
     }
 

@@ -1,8 +1,10 @@
-//! Sets written as RBSPs and as units, compared at scale: records in range, with numbers off, and at the limits of their types.
+//! Sets written as RBSPs and as units, compared at scale: records in range, with numbers off, at the limits of their types, and too long.
 
+mod long;
 mod units;
 
 use crate::expected;
+use crate::h266::aps::{write_aps, VvcAps};
 use crate::headers::Header;
 use crate::library::sets::{kind_rewrite, rewrite, write, write_nal, HEAD};
 use crate::library::structs::{flags, types};
@@ -19,6 +21,8 @@ pub fn compare() -> Vec<Tally> {
         limits(),
         units::any_units(),
         units::header_limits(),
+        long::around_the_longest(),
+        long::too_long(),
         no_flags(),
         every_id(),
         rewritten(),
@@ -43,18 +47,23 @@ fn shown(set: &[i64]) -> Vec<(usize, i64)> {
     set.iter().copied().enumerate().filter(|&(_, n)| n != 0).collect()
 }
 
-/// An output just long enough, one byte less, longer, and empty.
+/// An output just long enough, one byte less, longer, empty, and long enough for every set.
 fn rbsp_into_each_room(t: &mut Tally, set: &[i64]) {
     let due = expected::written::write(set, &[FILLER; 5_000]).0.unwrap_or(3);
-    for room in [due, due - 1, due + 7, 0] {
+    for room in [due, due - 1, due + 7, 0, 5_000] {
         rbsp(t, set, room);
     }
 }
 
+/// A set of a style and a kind, which change in turn.
+fn record(random: &mut Random, round: usize) -> VvcAps {
+    let style = STYLES[round % STYLES.len()];
+    let kind = (round / STYLES.len() % 3) as u8;
+    Maker { random, style }.set(kind)
+}
+
 fn in_range(random: &mut Random, round: usize) -> Vec<i64> {
-    let style = STYLES[round % 4];
-    let kind = (round / 4 % 3) as u8;
-    expected::sets::numbers(&Maker { random, style }.set(kind)).0
+    expected::sets::numbers(&record(random, round)).0
 }
 
 fn sets_in_range() -> Tally {
@@ -175,7 +184,7 @@ fn no_flags() -> Tally {
         let asked = || format!("{name}, unit of header {header:?}, {room} bytes for {:?}", shown(set));
         t.same(asked, (answer, &after), (Err(code), &before));
     };
-    for round in 0..24 {
+    for round in 0..30 {
         let good = in_range(&mut random, round);
         for (i, name) in flags(good[0] as usize) {
             for byte in [2, 255, 3 + random.below(252) as i64] {
@@ -203,7 +212,7 @@ fn no_flags() -> Tally {
 fn every_id() -> Tally {
     let mut t = Tally::new("sets with every id");
     let mut random = Random::new(27);
-    for round in 0..12 {
+    for round in 0..15 {
         let good = in_range(&mut random, round);
         for id in 0..=255 {
             for extension in [0, 1] {
@@ -217,20 +226,14 @@ fn every_id() -> Tally {
     t
 }
 
-/// Sets read and written again: the bytes that were read.
+/// Sets read and written again: the bytes that were read, unless they are refused as too long or damaged.
 fn rewritten() -> Tally {
     let mut t = Tally::new("sets read and written again");
     let mut random = Random::new(26);
     for round in 0..120_000 {
-        let set = in_range(&mut random, round);
-        let mut bytes = vec![0; 3_000];
-        let n = expected::written::write(&set, &bytes)
-            .0
-            .expect("a set in range is written");
-        bytes = expected::written::write(&set, &bytes).1;
-        bytes.truncate(n);
+        let bytes = write_aps(&record(&mut random, round)).expect("a set in range is written");
         let mut damaged = bytes.clone();
-        crate::sets::flip(&mut damaged, random.below(n * 8));
+        crate::sets::flip(&mut damaged, random.below(bytes.len() * 8));
         for read in [bytes, damaged] {
             let mut after = vec![FILLER; 3_000];
             let answer = rewrite(&read, &mut after);

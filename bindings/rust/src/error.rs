@@ -2,7 +2,7 @@
 
 use std::fmt;
 
-/// A refusal; it leaves outputs and tables as they were, but for a damaged unit (`Table::take_unit`).
+/// A refusal; it leaves outputs and tables as they were, but for a unit whose RBSP is damaged or too long (`Table::take_unit`).
 #[derive(Debug, Clone, Copy, PartialEq, Eq, Hash)]
 #[repr(u32)]
 pub enum Refusal {
@@ -12,7 +12,7 @@ pub enum Refusal {
     InvalidData = 2,
     /// A kind that has no syntax yet, or extension flag 1 to write.
     Unsupported = 3,
-    /// An input over 65,536 bytes.
+    /// An input over 65,536 bytes, or a set's RBSP over 2,048, read or written.
     InputTooLong = 4,
     /// An output or a work buffer that is too short.
     OutputTooShort = 5,
@@ -46,7 +46,7 @@ impl fmt::Display for Refusal {
             Refusal::UnexpectedEnd => "the bytes end inside the header or before the set does",
             Refusal::InvalidData => "a unit header, kind, id, value, stop bit, padding, stream split or place is wrong",
             Refusal::Unsupported => "the kind has no syntax yet, or the set to write has extension flag 1",
-            Refusal::InputTooLong => "the input is over 65,536 bytes",
+            Refusal::InputTooLong => "the input is over 65,536 bytes, or the set's RBSP over 2,048",
             Refusal::OutputTooShort => "the output or the work buffer is too short",
             Refusal::EmptyPlace => "no set is held for this kind and id",
         })

@@ -4,11 +4,11 @@
 //! the library reads and writes where they are.
 //!
 //! ```
-//! use kendwyra::{Kind, Refusal, Table};
+//! use kendwyra::{Kind, Refusal, Table, LONGEST_RBSP};
 //!
 //! // An LMCS set in a unit of type 17, then an ALF set in one of type 18.
 //! let stream = [0, 0, 0, 1, 0x00, 0x89, 0x20, 0x42, 0x12, 0, 0, 0, 1, 0x00, 0x91, 0x00, 0x10];
-//! let mut work = [0; 64];
+//! let mut work = [0; LONGEST_RBSP];
 //! let mut table = Table::new();
 //! let counts = table.take_stream(&stream, &mut work)?;
 //! assert_eq!(counts.accepted, 2);
@@ -40,13 +40,16 @@ pub use sets::{Alf, Aps, Head, Kind, Lmcs, Scaling, UnitHeader};
 pub use table::{Counts, Held, Table, Taken};
 
 /// Bytes of a table.
-pub const TABLE_BYTES: usize = 30_292;
+pub const TABLE_BYTES: usize = 23_228;
 
 /// No list at a cut is longer, in bytes.
-pub const LIST_BYTES: usize = 45_492;
+pub const LIST_BYTES: usize = 34_900;
 
-/// The longest input that is taken, in bytes.
+/// The longest stream or unit that is taken, and the longest input of `escapes`, in bytes.
 pub const LONGEST_INPUT: usize = 65_536;
+
+/// The longest RBSP of a set that is read or written, in bytes; a work buffer of so many always suffices.
+pub const LONGEST_RBSP: usize = 2_048;
 
 /// The README's example, compiled with the tests.
 #[cfg(doctest)]

@@ -56,22 +56,23 @@ pub fn nal_header(unit: &[u8]) -> Result<NalHeader, Refusal> {
     })
 }
 
-/// The set of an RBSP, and the bit where reading ended.
+/// The set of an RBSP, and the bit where reading ended; `InputTooLong` for over `LONGEST_RBSP` bytes, those after the set counted.
 pub fn read(rbsp: &[u8]) -> Result<(Aps, usize), Refusal> {
     Aps::read(rbsp)
 }
 
-/// The set of a unit, and the bit of its RBSP where reading ended; `work` has at least the unit's length less 2 and then starts with the RBSP.
+/// The set of a unit, and the bit of its RBSP where reading ended; `work` has at least the RBSP's length, for which `LONGEST_RBSP` bytes are
+/// always enough, and then starts with it. Judged are the header, then the RBSP's length (`InputTooLong`) and that of `work` (`OutputTooShort`).
 pub fn read_unit(unit: &[u8], work: &mut [u8]) -> Result<(Aps, usize), Refusal> {
     Aps::read_unit(unit, work)
 }
 
-/// Writes a set as an RBSP at the start of `out` and gives the length.
+/// Writes a set as an RBSP at the start of `out` and gives the length; `InputTooLong`, before `OutputTooShort`, for over `LONGEST_RBSP` bytes.
 pub fn write(set: &Aps, out: &mut [u8]) -> Result<usize, Refusal> {
     set.write(out)
 }
 
-/// Writes a set as a unit of a header at the start of `out` and gives the length.
+/// Writes a set as a unit of a header at the start of `out` and gives the length; `InputTooLong` as for an RBSP.
 pub fn write_unit(set: &Aps, header: UnitHeader, out: &mut [u8]) -> Result<usize, Refusal> {
     set.write_unit(header, out)
 }

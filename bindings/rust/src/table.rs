@@ -56,8 +56,9 @@ impl Table {
         Table(bytes)
     }
 
-    /// Takes the units of a stream in the byte stream form, in order; `work` has at least the stream's length. Damaged units empty places, as
-    /// `take_unit` says.
+    /// Takes the units of a stream in the byte stream form, in order; `work` has at least the length of the longest RBSP that is read: none for
+    /// a stream without sets, and `LONGEST_RBSP` bytes are always enough. Units whose RBSP is damaged or too long empty places, as `take_unit`
+    /// says.
     pub fn take_stream(&mut self, bytes: &[u8], work: &mut [u8]) -> Result<Counts, Refusal> {
         let mut counts = [0; 3];
         let (from, len) = (bytes.as_ptr(), bytes.len());
@@ -72,9 +73,10 @@ impl Table {
         })
     }
 
-    /// Takes a unit alone; `work` has at least the unit's length less 2. A unit that is refused with `UnexpectedEnd` or `InvalidData` after its
-    /// header empties the place that its RBSP's first byte names: what it should have replaced is out of date. A refused header empties none,
-    /// and leaves `work` as it was.
+    /// Takes a unit alone; `work` has at least its RBSP's length, for which `LONGEST_RBSP` bytes are always enough. A unit whose RBSP is refused
+    /// with `UnexpectedEnd` or `InvalidData`, or as longer with `InputTooLong`, empties the place that the RBSP's first byte names: what it should
+    /// have replaced is out of date. A unit over `LONGEST_INPUT` bytes and a refused header empty none. Unless its RBSP is read, `work` stays as
+    /// it was.
     pub fn take_unit(&mut self, unit: &[u8], work: &mut [u8]) -> Result<Taken, Refusal> {
         let (to, room) = (work.as_mut_ptr(), work.len());
         // SAFETY: both pointers are those of slices, with their own lengths, and the slices don't overlap.

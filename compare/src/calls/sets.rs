@@ -3,14 +3,14 @@
 use std::hint::black_box;
 
 use super::{record, Row};
-use crate::expected::{self, number};
+use crate::expected::{self, document::LONGEST_RBSP};
 use crate::h266::aps::{parse_aps_rbsp, write_aps, VvcAps};
 use crate::headers::{self, Header};
 use crate::library::sets::unit_header;
 use crate::nal;
 use crate::random::Random;
-use crate::sets::flip;
 use crate::sets::make::{Maker, Style};
+use crate::sets::{flip, long};
 use crate::speed::sets::{calls, inputs};
 use crate::tally::Tally;
 use kendwyra::{sets, Aps, Refusal};
@@ -32,11 +32,14 @@ pub fn rows() -> Vec<Row> {
 
 /// Random sets of the kind and size that the input of this index has.
 fn made(random: &mut Random, input: usize) -> VvcAps {
-    let style = [Style::Sparse, Style::Typical, Style::Full][input % 3];
+    made_of(random, [Style::Sparse, Style::Typical, Style::Full][input % 3], input)
+}
+
+fn made_of(random: &mut Random, style: Style, input: usize) -> VvcAps {
     Maker { random, style }.set((input / 3) as u8)
 }
 
-/// Every tenth RBSP has a bit flipped or is cut.
+/// Every tenth RBSP has a bit flipped or is cut, and every tenth has bytes after it, up to around the longest that is read.
 fn read(name: &str, rbsp: &[u8], input: usize) -> Row {
     let mut t = Tally::new(format!("read of a {name}"));
     let mut random = Random::new(40 + input as u64);
@@ -46,12 +49,17 @@ fn read(name: &str, rbsp: &[u8], input: usize) -> Row {
         match case % 20 {
             9 => flip(&mut bytes, random.below(len * 8)),
             19 => bytes.truncate(random.below(len)),
+            4 | 14 => {
+                let len = LONGEST_RBSP - 2 + random.below(6);
+                bytes = long::followed(&mut random, &bytes, len);
+            }
             _ => (),
         }
         same_read(&mut t, &bytes);
         let unit_type = headers::aps_type(&mut random);
         let header = headers::any(&mut random, unit_type);
-        same_unit_read(&mut t, &[&header[..], &nal::rbsp_to_ebsp(&bytes)].concat());
+        let room = bytes.len().saturating_sub(usize::from(case % 8 == 3));
+        same_unit_read(&mut t, &[&header[..], &nal::rbsp_to_ebsp(&bytes)].concat(), room);
     }
     Row::new(
         t,
@@ -74,8 +82,8 @@ fn same_read(t: &mut Tally, bytes: &[u8]) {
 }
 
 /// Beside that the set of a unit, and every byte of the work buffer.
-fn same_unit_read(t: &mut Tally, unit: &[u8]) {
-    let (mut work, mut after) = (vec![0; unit.len()], vec![0; unit.len()]);
+fn same_unit_read(t: &mut Tally, unit: &[u8], room: usize) {
+    let (mut work, mut after) = (vec![0; room], vec![0; room]);
     let ours = Aps::read_unit(unit, &mut work).map_err(Refusal::number);
     let rust = expected::sets::read_unit(unit, &mut after, true);
     let rust = rust.map(|(_, set)| (record::set(&set), expected::sets::end(&set)));
@@ -84,7 +92,8 @@ fn same_unit_read(t: &mut Tally, unit: &[u8]) {
     }
 }
 
-/// Every tenth set has extension flag 1 or too large an id, or goes into one byte less than it takes.
+/// Every tenth set has extension flag 1 or too large an id, or goes into one byte less than it takes; of full ones every tenth is another,
+/// with scaling lists that are too long.
 fn write(name: &str, rbsp: &[u8], input: usize) -> Row {
     let mut t = Tally::new(format!("write of a {name}"));
     let mut random = Random::new(50 + input as u64);
@@ -94,10 +103,11 @@ fn write(name: &str, rbsp: &[u8], input: usize) -> Row {
         match case % 30 {
             9 => record.aps_extension_flag = true,
             19 => record.aps_adaptation_parameter_set_id = 8 + random.below(248) as u8,
+            4 | 14 | 24 if input % 3 == 2 => record = made_of(&mut random, Style::Long, input),
             _ => (),
         }
-        let rust = write_aps(&record).map_err(number);
-        let due = rust.as_ref().map_or(40, Vec::len);
+        let rust = expected::written::rbsp(&record);
+        let due = rust.as_ref().map_or([40, 3_500][case % 20 / 10], Vec::len);
         let room = if case % 30 == 29 {
             due - 1
         } else {

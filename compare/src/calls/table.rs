@@ -4,13 +4,14 @@ use std::hint::black_box;
 use std::time::Instant;
 
 use super::{record, Row};
-use crate::expected::table::{names, Table as Model};
+use crate::expected::document::LONGEST_RBSP;
+use crate::expected::table::{names, split, work_due, Table as Model, Why};
 use crate::h266::aps::{write_aps, VvcAps};
 use crate::headers::{self, Header};
 use crate::nal;
 use crate::random::Random;
-use crate::sets::make::{Maker, Style};
-use crate::sets::{extended, flip};
+use crate::sets::make::Style;
+use crate::sets::{extended, flip, long};
 use crate::speed::sets::calls;
 use crate::speed::table::foreign;
 use crate::speed::Run;
@@ -25,13 +26,6 @@ pub fn rows() -> Vec<Row> {
     rows.extend(lookups);
     rows.push(cut());
     rows
-}
-
-/// A set of a style with this name.
-fn made(random: &mut Random, style: Style, (kind, id): (u8, u8)) -> VvcAps {
-    let mut set = Maker { random, style }.set(kind);
-    set.aps_adaptation_parameter_set_id = id;
-    set
 }
 
 /// A unit with a header that is taken, after a start code; some with extension flag 1.
@@ -50,7 +44,7 @@ fn filling(random: &mut Random, style: Style, extension: Option<usize>) -> Vec<u
     let units = names().into_iter().enumerate();
     units
         .flat_map(|(i, name)| {
-            let set = made(random, style, name);
+            let set = long::taken(random, style, name);
             unit(random, &set, extension == Some(i))
         })
         .collect()
@@ -143,7 +137,18 @@ fn sum(counts: Result<[u64; 3], u32>) -> u64 {
     })
 }
 
-/// Every tenth stream has a bit flipped or is cut, every tenth has a bit of a header flipped, and every tenth has too short a work buffer.
+/// As long as the longest RBSP that is read, every tenth one byte less, and every fifth as long as the stream.
+fn room(stream: &[u8], case: usize) -> usize {
+    let due = split(stream).map_or(0, |units| work_due(&units));
+    match case % 10 {
+        4 => due.saturating_sub(1),
+        1 | 8 => stream.len(),
+        _ => due,
+    }
+}
+
+/// Every tenth stream has a bit flipped or is cut, every tenth has a bit of a header flipped, every tenth ends with a set that is too long, and
+/// every tenth has too short a work buffer.
 fn typical_sets() -> Row {
     let mut t = Tally::new("stream of 20 typical sets taken");
     let mut random = Random::new(71);
@@ -151,10 +156,18 @@ fn typical_sets() -> Row {
     for case in 0..CASES {
         let mut stream = filling(&mut random, Style::Typical, None);
         damage(&mut random, &mut stream, case);
-        let room = stream.len() - usize::from(case % 10 == 4);
+        if case % 10 == 6 {
+            let len = LONGEST_RBSP + 1 + random.below(400);
+            let long = long::scaling(&mut random, len);
+            stream.extend(unit(&mut random, &long, false));
+        }
+        let room = room(&stream, case);
         both.stream(&mut t, &stream, room);
     }
-    assert!(!both.model.emptied.is_empty(), "damaged sets empty places");
+    for why in [Why::Damaged, Why::LongRbsp] {
+        let emptied = both.model.named.iter().any(|&(of, _)| of == why);
+        assert!(emptied, "sets that are damaged or too long empty places");
+    }
     both.row(t, &filling(&mut random, Style::Typical, None))
 }
 
@@ -183,7 +196,7 @@ fn other_units() -> Row {
             stream.extend([&[0, 0, 0, 1, 0x00, unit_type << 3 | 1][..], &body].concat());
         }
         damage(&mut random, &mut stream, case);
-        let room = stream.len() - usize::from(case % 10 == 4);
+        let room = room(&stream, case);
         both.stream(&mut t, &stream, room);
     }
     both.row(t, &foreign(1_400, |n| nal::rbsp_to_ebsp(&random.bytes(n))))
@@ -197,7 +210,7 @@ fn lookup(kind: u8, name: &str) -> Row {
     let mut place = (kind, 0);
     for case in 0..CASES {
         place = (kind, random.below(if kind == 1 { 4 } else { 8 }) as u8);
-        let set = made(&mut random, Style::Full, place);
+        let set = long::taken(&mut random, Style::Full, place);
         let stream = unit(&mut random, &set, false);
         let (mut work, mut again) = (vec![0; stream.len()], vec![0; stream.len()]);
         let accepted = [
@@ -233,7 +246,8 @@ fn lookup(kind: u8, name: &str) -> Row {
     )
 }
 
-/// Full sets in all places, in every tenth table one of them with extension flag 1; every tenth list also into one byte less.
+/// Full sets in all places, in every tenth table the largest, in every tenth one with extension flag 1; every tenth list also into one byte
+/// less.
 fn cut() -> Row {
     let mut t = Tally::new("cut of 20 full sets");
     let mut random = Random::new(74);
@@ -241,7 +255,8 @@ fn cut() -> Row {
     let mut work = vec![0; 65_536];
     for case in 0..CASES {
         let extension = (case % 10 == 5).then(|| random.below(20));
-        let stream = filling(&mut random, Style::Full, extension);
+        let style = if case % 10 == 7 { Style::Largest } else { Style::Full };
+        let stream = filling(&mut random, style, extension);
         let accepted = [
             both.model.take_stream(&stream, &mut work),
             taken(&mut both.ours, &stream, &mut work),
@@ -249,6 +264,12 @@ fn cut() -> Row {
         assert!(accepted == [Ok([20, 0, 0]); 2], "full sets are accepted");
         both.list(&mut t, usize::from(case % 10 == 4));
     }
+    let stream = filling(&mut random, Style::Full, None);
+    let taken = taken(&mut both.ours, &stream, &mut work);
+    assert!(
+        taken == both.model.take_stream(&stream, &mut work),
+        "full sets are accepted"
+    );
     Row::new(
         t,
         &mut || once(|| black_box(&both.model).list().map_or(0, |list| list.len() as u64)),

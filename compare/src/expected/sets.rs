@@ -115,7 +115,7 @@ fn whole(rbsp: &[u8], rust: Result<VvcAps, u32>) -> Result<VvcAps, u32> {
 }
 
 pub fn read_rbsp(bytes: &[u8]) -> Result<VvcAps, u32> {
-    document::escape(bytes.len())?;
+    document::rbsp(bytes.len())?;
     whole(bytes, aps::parse_aps_rbsp(bytes).map_err(number))
 }
 
@@ -139,12 +139,24 @@ pub fn unit_header(unit: &[u8]) -> Result<Header, u32> {
     Ok([h.nal_unit_type, h.nuh_layer_id, h.nuh_temporal_id_plus1])
 }
 
+/// A unit's header, and the RBSP that is read. 4; 1; 2; then 4 for a long RBSP.
+pub fn unit_rbsp(unit: &[u8]) -> Result<(Header, Vec<u8>), u32> {
+    let header = unit_header(unit)?;
+    let rbsp = nal::ebsp_to_rbsp(&unit[2..]);
+    document::rbsp(rbsp.len())?;
+    Ok((header, rbsp))
+}
+
+/// How long a work buffer must be for a unit: none is needed where no RBSP is read.
+pub fn work_due(unit: &[u8]) -> usize {
+    unit_rbsp(unit).map_or(0, |(_, rbsp)| rbsp.len())
+}
+
 /// The header and the set of a unit. The refusals 4 and 5, that of a header by its other fields than the type, and the work buffer are not
 /// the Rust's, which makes its own buffer. Without `looking` missing bits are not looked for: the Rust alone.
 pub fn read_unit(unit: &[u8], work: &mut [u8], looking: bool) -> Result<(Header, VvcAps), u32> {
-    let header = unit_header(unit)?;
-    document::room(unit.len() - 2, work.len())?;
-    let rbsp = nal::ebsp_to_rbsp(&unit[2..]);
+    let (header, rbsp) = unit_rbsp(unit)?;
+    document::room(rbsp.len(), work.len())?;
     work[..rbsp.len()].copy_from_slice(&rbsp);
     let rust = aps::parse_aps(unit).map_err(number);
     let set = if looking { whole(&rbsp, rust) } else { rust };

@@ -1,5 +1,5 @@
-//! The table: 20 places, each with the set last accepted for it as the Rust's `parse_aps` reads it and its unit's header, unless a damaged
-//! unit has named the place since, and their list by `write_aps_nal` with these headers.
+//! The table: 20 places, each with the set last accepted for it as the Rust's `parse_aps` reads it and its unit's header, unless a unit that
+//! is damaged or has too long an RBSP has named the place since, and their list by `write_aps_nal` with these headers.
 
 use super::{document, sets, written};
 use crate::h266::aps::VvcAps;
@@ -50,12 +50,35 @@ fn is_passed_over(unit: &[u8]) -> bool {
     h266::parse_nal_header(unit).is_ok_and(|header| !sets::is_aps(header.nal_unit_type))
 }
 
-/// The kind and the id that a damaged APS unit names: refused with 1 or 2 after its header, and with a byte in its RBSP. That byte has the
-/// kind in three bits, then the id in five.
-fn damaged(unit: &[u8], refusal: u32) -> Option<(u8, u8)> {
+/// The longest RBSP that is read of a stream's units: none has 0.
+pub fn work_due(units: &[&[u8]]) -> usize {
+    units.iter().map(|unit| sets::work_due(unit)).max().unwrap_or(0)
+}
+
+/// The kind and the id that a unit's RBSP names if it has a byte: that has the kind in three bits, then the id in five.
+fn named(unit: &[u8]) -> Option<(u8, u8)> {
     let body = unit.get(2..)?;
     let first = *nal::ebsp_to_rbsp(body).first()?;
-    (refusal == 1 || refusal == 2).then_some((first / 32, first % 32))
+    Some((first / 32, first % 32))
+}
+
+/// Why a unit was refused that named a place which held a set: the first two empty it, the others leave it as it was.
+#[derive(Clone, Copy, PartialEq)]
+pub enum Why {
+    /// 1 or 2 after its header.
+    Damaged,
+    /// 4 after its header.
+    LongRbsp,
+    /// Its header; with one that is taken it would have emptied the place.
+    Header,
+    /// It has more than 65,536 bytes.
+    LongUnit,
+}
+
+impl Why {
+    pub fn empties(self) -> bool {
+        matches!(self, Why::Damaged | Why::LongRbsp)
+    }
 }
 
 /// A set in force, and its unit's header.
@@ -71,10 +94,8 @@ pub struct Table {
     places: [Option<Entry>; 20],
     /// Whether missing bits are looked for, which takes time that is not the Rust's.
     pub looking: bool,
-    /// The places that held a set when a damaged unit emptied them, until a caller takes this list.
-    pub emptied: Vec<(u8, u8)>,
-    /// The places that held a set when a unit that would have emptied them was refused for its header, until a caller takes this list.
-    pub kept: Vec<(u8, u8)>,
+    /// The places that held a set when a refused unit named them, until a caller takes this list.
+    pub named: Vec<(Why, (u8, u8))>,
 }
 
 impl Table {
@@ -82,20 +103,23 @@ impl Table {
         Table {
             places: [const { None }; 20],
             looking: true,
-            emptied: Vec::new(),
-            kept: Vec::new(),
+            named: Vec::new(),
         }
     }
 
-    /// 4; 1; passed over; 2 for the header; 5; then as `parse_aps`, but 1 where a bit is missing. A damaged unit is refused too, and empties a
-    /// place; one that is refused for its header empties none, whatever follows that.
+    /// 4; 1; passed over; 2 for the header; 4 for a long RBSP; 5; then as `parse_aps`, but 1 where a bit is missing. A unit that is damaged or
+    /// has a long RBSP is refused too, and empties a place; one that is too long itself or is refused for its header empties none, whatever
+    /// follows that.
     pub fn take_unit(&mut self, unit: &[u8], work: &mut [u8]) -> Result<Taken, u32> {
-        document::escape(unit.len())?;
+        if let Err(refusal) = document::escape(unit.len()) {
+            self.keep(unit, Why::LongUnit);
+            return Err(refusal);
+        }
         if is_passed_over(unit) {
             return Ok(Taken::PassedOver);
         }
         if let Err(refusal) = sets::unit_header(unit) {
-            self.keep(unit, work.len());
+            self.keep(unit, Why::Header);
             return Err(refusal);
         }
         match sets::read_unit(unit, work, self.looking) {
@@ -105,37 +129,39 @@ impl Table {
                 Ok(Taken::Accepted)
             }
             Err(refusal) => {
-                if let Some((kind, id)) = damaged(unit, refusal) {
-                    self.empty(kind, id);
+                if let Some(why) = emptying(refusal) {
+                    self.empty(unit, why);
                 }
                 Err(refusal)
             }
         }
     }
 
-    /// A kind or an id that is too large has no place to empty.
-    fn empty(&mut self, kind: u8, id: u8) {
-        let Some(place) = place(kind, id) else { return };
+    /// An RBSP without a byte, and a kind or an id that is too large, have no place to empty.
+    fn empty(&mut self, unit: &[u8], why: Why) {
+        let Some(name) = named(unit) else { return };
+        let Some(place) = place(name.0, name.1) else { return };
         if self.places[place].take().is_some() {
-            self.emptied.push((kind, id));
+            self.named.push((why, name));
         }
     }
 
-    /// Notes the place that the unit would have emptied with a header that is taken.
-    fn keep(&mut self, unit: &[u8], room: usize) {
+    /// Notes the place that the unit would have emptied with a header that is taken, no more bytes than are taken, and room to work in.
+    fn keep(&mut self, unit: &[u8], why: Why) {
         let Some(body) = unit.get(2..) else { return };
-        let good = [&headers::bytes([NAL_TYPE_PREFIX_APS, 0, 1])[..], body].concat();
-        let read = sets::read_unit(&good, &mut vec![0; room], self.looking);
-        let named = read.err().and_then(|refusal| damaged(&good, refusal));
-        self.kept
-            .extend(named.filter(|&(kind, id)| self.held(kind, id).is_ok()));
+        let mut good = [&headers::bytes([NAL_TYPE_PREFIX_APS, 0, 1])[..], body].concat();
+        good.truncate(document::LONGEST);
+        let read = sets::read_unit(&good, &mut [0; document::LONGEST_RBSP], self.looking);
+        let named = read.err().and_then(emptying).and_then(|_| named(&good));
+        let filled = named.filter(|&(kind, id)| self.held(kind, id).is_ok());
+        self.named.extend(filled.map(|name| (why, name)));
     }
 
-    /// How many units were accepted, refused and passed over. 4; 2; 5.
+    /// How many units were accepted, refused and passed over. 4; 2; 5 for the longest RBSP that is read.
     pub fn take_stream(&mut self, stream: &[u8], work: &mut [u8]) -> Result<[u64; 3], u32> {
         document::escape(stream.len())?;
         let units = split(stream)?;
-        document::room(stream.len(), work.len())?;
+        document::room(work_due(&units), work.len())?;
         let mut counts = [0; 3];
         for unit in units {
             match self.take_unit(unit, work) {
@@ -181,6 +207,15 @@ impl Table {
             Ok((after, len)) => (Ok(len), after),
             Err(e) => (Err(e), out.to_vec()),
         }
+    }
+}
+
+/// Of the refusals after a header 1 and 2 are of a damaged RBSP, and 4 of one that is too long; 3 and 5 empty nothing.
+fn emptying(refusal: u32) -> Option<Why> {
+    match refusal {
+        1 | 2 => Some(Why::Damaged),
+        4 => Some(Why::LongRbsp),
+        _ => None,
     }
 }
 

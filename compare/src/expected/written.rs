@@ -195,21 +195,29 @@ fn put(out: &[u8], write: impl Fn(&VvcAps) -> Result<Vec<u8>, u32>, set: &VvcAps
 
 /// The answer, and the output after it.
 pub fn write(numbers: &[i64], out: &[u8]) -> Answer {
-    put(out, |set| aps::write_aps(set).map_err(number), &record(numbers))
+    put(out, rbsp, &record(numbers))
 }
 
 pub fn write_nal(numbers: &[i64], header: Header, out: &[u8]) -> Answer {
     put(out, |set| unit(set, header), &record(numbers))
 }
 
+/// The RBSP that the Rust writes, unless it is too long: 4 comes after the Rust's refusals.
+pub fn rbsp(set: &VvcAps) -> Result<Vec<u8>, u32> {
+    let bytes = aps::write_aps(set).map_err(number)?;
+    document::rbsp(bytes.len())?;
+    Ok(bytes)
+}
+
 /// The Rust's unit with this header in place of its own, which has layer 0 and temporal id 0. 2 for another type than 17 and 18, then for a
-/// layer or a temporal id that H.266 has not, before the Rust's refusals of the set.
+/// layer or a temporal id that H.266 has not, before the Rust's refusals of the set, and 4 for its RBSP.
 pub fn unit(set: &VvcAps, header: Header) -> Result<Vec<u8>, u32> {
     let [unit_type, layer, temporal_id_plus1] = header;
     if is_aps(unit_type) {
         document::header([0, 0], layer, temporal_id_plus1)?;
     }
     let mut unit = aps::write_aps_nal(set, unit_type).map_err(number)?;
+    rbsp(set)?;
     unit[..2].copy_from_slice(&headers::bytes(header));
     Ok(unit)
 }

@@ -59,12 +59,12 @@ impl Table {
         }
     }
 
-    /// The answer, and whether the table changed although the unit was refused, as it may with 1 and 2.
+    /// The answer, and whether the table changed although the unit was refused, as it may with 1, 2 and 4.
     pub fn take_unit(&mut self, unit: &[u8], work: &mut [u8]) -> (Result<Taken, u32>, bool) {
         let before = self.clone();
         let table = front(&mut self.0);
         let code = unsafe { raw::aps_take_unit(table, unit.as_ptr(), unit.len(), work.as_mut_ptr(), work.len()) };
-        match self.code(code, &before, code <= 2) {
+        match self.code(code, &before, code <= 2 || code == 4) {
             0 => (Ok(Taken::Accepted), false),
             PASSED_OVER => (Ok(Taken::PassedOver), false),
             code => (Err(code), *self != before),

@@ -2,10 +2,12 @@
 //! or 2 where the field can't hold the value or there is none.
 
 use crate::expected;
+use crate::expected::document::LONGEST_RBSP;
 use crate::h266::aps::{self, VvcApsPayload};
 use crate::library::structs::{types, Type};
 use crate::random::Random;
 use crate::sets::extended;
+use crate::sets::long::scaling;
 use crate::sets::make::{Maker, Style, STYLES};
 
 pub struct Change {
@@ -81,12 +83,12 @@ fn made(kind: u8, style: Style, seed: u64) -> Vec<u8> {
     aps::write_aps(&set).expect("a set in range is written")
 }
 
-/// A full set of scaling lists with all copied but these.
+/// A long set of scaling lists with all copied but these.
 fn lists(sent: &[usize], seed: u64) -> Vec<u8> {
     let mut random = Random::new(seed);
     let mut set = Maker {
         random: &mut random,
-        style: Style::Full,
+        style: Style::Long,
     }
     .set(2);
     let VvcApsPayload::ScalingList(d) = &mut set.payload else {
@@ -293,15 +295,42 @@ fn not_held() -> Vec<Change> {
         .collect()
 }
 
-/// Sets of every kind and style into outputs around the bytes due.
+/// Scaling lists of the longest RBSP as they are, and with a step that takes more bits: 4, with room for it and with none.
+fn longest() -> Vec<Change> {
+    let set = scaling(&mut Random::new(43), LONGEST_RBSP);
+    let rbsp = aps::write_aps(&set).expect("a set in range is written");
+    let numbers = expected::sets::numbers(&set).0;
+    let last = |id: usize| 102 + 64 * id + 63;
+    let step = |id: usize| (last(id), numbers[last(id) - 1] - 128);
+    let is_longer = |&(index, value): &(usize, i64)| {
+        let mut longer = numbers.clone();
+        longer[index] = value;
+        expected::written::write(&longer, &[0; 3_000]).0 == Err(4)
+    };
+    let (index, value) = (8..26).map(step).find(is_longer).expect("a step that had few bits");
+    vec![
+        one("scaling of 2,048 bytes".into(), &rbsp, 0, 2, 2_048),
+        one(
+            "scaling of 2,048 bytes, a longer step".into(),
+            &rbsp,
+            index,
+            value,
+            3_000,
+        ),
+        one("the same and no room".into(), &rbsp, index, value, 0),
+    ]
+}
+
+/// Sets of every kind and style into outputs around the bytes due; full scaling lists stand above.
 fn rooms() -> Vec<Change> {
     let mut out = Vec::new();
     for (kind, name) in [(0, "ALF"), (1, "LMCS"), (2, "scaling")] {
         for (style, how) in STYLES.into_iter().zip(["sparse", "typical", "extreme", "full"]) {
             let rbsp = made(kind, style, 40 + u64::from(kind));
             let n = rbsp.len();
-            let rooms = match style {
-                Style::Full => vec![n - 1, n + 40],
+            let rooms = match (kind, style) {
+                (2, Style::Full) => Vec::new(),
+                (_, Style::Full) => vec![n - 1, n + 40],
                 _ => vec![n, n - 1, n + 2, n + 40],
             };
             for room in rooms {
@@ -321,6 +350,7 @@ pub fn sample() -> Vec<Change> {
         copies(),
         entries(),
         not_held(),
+        longest(),
         rooms(),
     ]
     .into_iter()

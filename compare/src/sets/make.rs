@@ -10,12 +10,15 @@ pub enum Style {
     Sparse,
     Typical,
     Extreme,
+    /// All is sent; steps of scaling lists from -64 to 63, so that they take some 1,900 bytes.
     Full,
-    /// No set of its kind takes more bytes.
+    /// All is sent; scaling lists take some 2,400 bytes and are refused.
+    Long,
+    /// No set of its kind takes more bytes; scaling lists 2,930.
     Largest,
 }
 
-pub const STYLES: [Style; 4] = [Style::Sparse, Style::Typical, Style::Extreme, Style::Full];
+pub const STYLES: [Style; 5] = [Style::Sparse, Style::Typical, Style::Extreme, Style::Full, Style::Long];
 
 pub struct Maker<'a> {
     pub random: &'a mut Random,
@@ -38,7 +41,7 @@ impl Maker<'_> {
     /// How many rows less one.
     fn count(&mut self, most: u32) -> u32 {
         match self.style {
-            Style::Full => most,
+            Style::Full | Style::Long => most,
             _ => self.upto(most),
         }
     }
@@ -46,18 +49,18 @@ impl Maker<'_> {
     fn flag(&mut self) -> bool {
         match self.style {
             Style::Sparse => self.random.below(4) == 0,
-            Style::Full | Style::Largest => true,
+            _ if self.is_full() => true,
             _ => self.random.below(2) == 0,
         }
     }
 
     fn is_full(&self) -> bool {
-        matches!(self.style, Style::Full | Style::Largest)
+        matches!(self.style, Style::Full | Style::Long | Style::Largest)
     }
 
     fn signed(&mut self, most: u32) -> (u32, bool) {
         let abs = match self.style {
-            Style::Full => self.random.below(most as usize) as u32 + 1,
+            Style::Full | Style::Long => self.random.below(most as usize) as u32 + 1,
             _ => self.upto(most),
         };
         (abs, abs != 0 && self.random.below(2) == 0)
@@ -69,6 +72,7 @@ impl Maker<'_> {
             Style::Sparse if self.random.below(8) > 0 => 0,
             Style::Typical => self.random.below(9) as i32 - 4,
             Style::Extreme => [-128, -127, -1, 0, 1, 126, 127][self.random.below(7)],
+            Style::Full => self.random.below(128) as i32 - 64,
             Style::Largest => -128,
             _ => self.random.below(256) as i32 - 128,
         }

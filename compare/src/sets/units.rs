@@ -1,6 +1,6 @@
 //! Sets read from units, and headers, compared at scale.
 
-use super::{beside, flip, head, of_another_kind, written};
+use super::{beside, flip, head, long, of_another_kind, written};
 use crate::expected;
 use crate::headers;
 use crate::library::sets::{kind_of, nal_header, Lent};
@@ -8,8 +8,14 @@ use crate::nal;
 use crate::random::Random;
 use crate::tally::Tally;
 
-pub fn compare() -> [Tally; 4] {
-    [any_units(), unit_boundaries(), headers_judged(), headers_read()]
+pub fn compare() -> [Tally; 5] {
+    [
+        any_units(),
+        unit_boundaries(),
+        long_rbsps(),
+        headers_judged(),
+        headers_read(),
+    ]
 }
 
 /// One unit with a work buffer, by the calls that an RBSP goes through but the last: the answer, and every byte of the buffer after it.
@@ -46,10 +52,14 @@ fn same_work(t: &mut Tally, asked: impl FnOnce() -> String, library: &[u8], expe
     }
 }
 
-/// Work buffers just long enough, one byte less, longer and empty.
+/// Work buffers just long enough for the RBSP, one byte less, longer, empty, and as long as the unit less 2.
 fn unit_into_each_room(t: &mut Tally, lent: &mut Lent, bytes: &[u8], filler: &[u8]) {
-    let due = bytes.len().saturating_sub(2);
-    for room in [due, due.saturating_sub(1), due + 5, 0] {
+    let body = bytes.get(2..).unwrap_or_default();
+    let due = nal::ebsp_to_rbsp(body).len();
+    let mut rooms = vec![due, due.saturating_sub(1), due + 5, 0, body.len()];
+    rooms.sort();
+    rooms.dedup();
+    for room in rooms {
         unit(t, lent, bytes, &filler[..room]);
     }
 }
@@ -121,8 +131,28 @@ fn unit_boundaries() -> Tally {
     t
 }
 
+/// Each RBSP with its escapes, so that the unit is as long as it and its header or has up to half as much again, and as it is, where what
+/// looks like an escape is one.
+fn long_rbsps() -> Tally {
+    let mut t = Tally::new("units: RBSPs of 2,040 to 2,056 bytes, and to 2,930");
+    let mut random = Random::new(29);
+    let mut lent = Lent::new();
+    let filler = random.bytes(8_000);
+    for round in 0..10 {
+        for len in long::lengths(&mut random) {
+            for rbsp in long::rbsps(&mut random, round, len) {
+                for body in [nal::rbsp_to_ebsp(&rbsp), rbsp] {
+                    let bytes = [&header(&mut random)[..], &body].concat();
+                    unit_into_each_room(&mut t, &mut lent, &bytes, &filler);
+                }
+            }
+        }
+    }
+    t
+}
+
 /// A unit is taken with both zero bits 0 and a layer to 55, which is a first byte to 55, type 17 or 18 and a temporal id plus one that is
-/// not 0; else it gets 2, whatever its RBSP and the work buffer.
+/// not 0; else it gets 2, whatever its RBSP and the work buffer. An RBSP of 2,049 bytes gets 4, whatever the work buffer.
 fn headers_judged() -> Tally {
     let mut t = Tally::new("units with every header, taken or refused with 2");
     let mut lent = Lent::new();
@@ -134,6 +164,9 @@ fn headers_judged() -> Tally {
                 (&[0x00, 0x10], 1, Err(5)),
                 (&[0x60, 0x20], 2, Err(3)),
                 (&[], 0, Err(1)),
+                (&[0xFF; 2_049], 2_049, Err(4)),
+                (&[0xFF; 2_049], 0, Err(4)),
+                (&[0xFF; 2_048], 2_047, Err(5)),
             ] {
                 let unit = [&[first, second][..], rbsp].concat();
                 let answer = lent.parse(0, &unit, &mut vec![0; room]).map(drop);

@@ -1,12 +1,13 @@
 //! Units and streams for a table: whole, damaged, foreign, short and long.
 
-use crate::expected::table::names;
+mod streams;
+
 use crate::h266::aps;
 use crate::headers;
 use crate::nal;
 use crate::random::Random;
 use crate::sets::make::{Maker, Style};
-use crate::sets::{extended, flip};
+use crate::sets::{extended, flip, long};
 
 /// Makes what the calls of a sequence bring.
 pub struct Bytes {
@@ -61,7 +62,7 @@ impl Bytes {
 
     fn style(&mut self) -> Style {
         match self.random.below(32) {
-            0 => Style::Full,
+            0 => [Style::Full, Style::Long][self.random.below(2)],
             1 => Style::Largest,
             2..=4 => Style::Extreme,
             5..=12 => Style::Typical,
@@ -84,11 +85,24 @@ impl Bytes {
         }
     }
 
-    /// A set whole, or damaged, or with bytes after it, or bytes that hardly are a set.
-    fn rbsp(&mut self) -> Vec<u8> {
+    /// About as long as an RBSP that is read, or up to the largest set.
+    fn long_rbsp(&mut self) -> usize {
+        let lengths = long::lengths(&mut self.random);
+        lengths[self.random.below(lengths.len())]
+    }
+
+    /// Scaling lists of just so many bytes.
+    fn scaling(&mut self, len: usize) -> Vec<u8> {
+        let mut set = long::scaling(&mut self.random, len);
+        set.aps_adaptation_parameter_set_id %= self.ids;
+        aps::write_aps(&set).expect("a set in range is written")
+    }
+
+    /// A set whole, or damaged, or with bytes after it, or bytes that hardly are a set; some are long.
+    pub fn rbsp(&mut self) -> Vec<u8> {
         let mut set = self.set();
         let bits = set.len() * 8;
-        match self.random.below(24) {
+        match self.random.below(26) {
             0 | 1 => {
                 let flips = 1 + self.random.below(3);
                 (0..flips).for_each(|_| flip(&mut set, self.random.below(bits)));
@@ -110,6 +124,16 @@ impl Bytes {
             10 => {
                 self.rename(&mut set);
                 set.truncate(1 + self.random.below(set.len()));
+            }
+            11 => {
+                let len = self.long_rbsp();
+                match self.random.below(4) {
+                    0 => set = self.scaling(len),
+                    1 => self.rename(&mut set),
+                    _ => (),
+                }
+                let len = len.max(set.len());
+                set = long::followed(&mut self.random, &set, len);
             }
             _ => (),
         }
@@ -197,91 +221,5 @@ impl Bytes {
             _ => vec![0; more],
         });
         unit
-    }
-
-    /// Zero bytes before a start code or at the end.
-    fn zeros(&mut self) -> Vec<u8> {
-        let more = self.random.below(6);
-        vec![0; [0, 1, 1, more][self.random.below(4)]]
-    }
-
-    /// Bytes that may not stand between units, some of which a unit takes as its own.
-    fn garbage(&mut self) -> Vec<u8> {
-        let zeros = self.random.below(5);
-        let byte = 1 + self.random.below(255) as u8;
-        let last = [1, 2, 3, byte][self.random.below(4)];
-        [vec![0; zeros], vec![last]].concat()
-    }
-
-    /// Units after start codes of three bytes or four, with zeros around them and rarely something else.
-    fn joined(&mut self, units: usize) -> Vec<u8> {
-        let mut stream = Vec::new();
-        for _ in 0..units {
-            if self.random.below(40) == 0 {
-                stream.extend(self.garbage());
-            }
-            stream.extend(self.zeros());
-            stream.extend([0, 0, 1]);
-            stream.extend(self.unit());
-        }
-        if self.random.below(60) == 0 {
-            stream.extend(self.garbage());
-        }
-        if self.random.below(2) == 0 {
-            stream.extend(self.zeros());
-        }
-        stream
-    }
-
-    pub fn stream(&mut self) -> Vec<u8> {
-        let units = self.random.below(7);
-        let mut stream = self.joined(units);
-        let len = stream.len();
-        match self.random.below(40) {
-            0 => stream.truncate(self.random.below(len + 1)),
-            1 => _ = stream.drain(..self.random.below(len + 1)),
-            2 if len > 0 => flip(&mut stream, self.random.below(len * 8)),
-            3 => stream = self.random.escapable(24),
-            _ => (),
-        }
-        stream
-    }
-
-    /// A stream of 65,530 to 65,540 bytes: more units, then a long one, zeros, or bytes that break the split.
-    pub fn long_stream(&mut self) -> Vec<u8> {
-        let mut stream = match self.random.below(2) {
-            0 => self.joined(3),
-            _ => self.joined(40),
-        };
-        stream.truncate(65_000);
-        let len = self.long();
-        stream.extend(match self.random.below(4) {
-            0 => vec![0; len - stream.len()],
-            1 => vec![0xFF; len - stream.len()],
-            2 => self.random.escapable(len - stream.len()),
-            _ => {
-                let body = self.random.bytes(65_000);
-                [&[0, 0, 1, 0, 0x09][..], &nal::rbsp_to_ebsp(&body)].concat()
-            }
-        });
-        stream.resize(len, 0xFF);
-        stream
-    }
-
-    /// A stream that fills every place, with the largest sets or with any.
-    pub fn filling_stream(&mut self) -> Vec<u8> {
-        let largest = self.random.below(2) == 0;
-        let mut stream = Vec::new();
-        for (kind, id) in names() {
-            let style = if largest { Style::Largest } else { self.style() };
-            let random = &mut self.random;
-            let mut set = Maker { random, style }.set(kind);
-            set.aps_adaptation_parameter_set_id = id;
-            let rbsp = aps::write_aps(&set).expect("a set in range is written");
-            let unit_type = headers::aps_type(&mut self.random);
-            let header = headers::bytes(headers::good(&mut self.random, unit_type));
-            stream.extend([&[0, 0, 0, 1][..], &header, &nal::rbsp_to_ebsp(&rbsp)].concat());
-        }
-        stream
     }
 }

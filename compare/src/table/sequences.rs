@@ -1,8 +1,9 @@
 //! Random sequences of calls, with lookups and cuts in between.
 
 use super::make::Bytes;
-use super::Both;
-use crate::expected::table::names;
+use super::{Both, Named};
+use crate::expected::sets;
+use crate::expected::table::{names, split, work_due};
 use crate::library::sets::Lent;
 use crate::random::Random;
 use crate::tally::Tally;
@@ -10,7 +11,7 @@ use kendwyra::TABLE_BYTES;
 
 const SEQUENCES: u64 = 150_000;
 
-pub fn random_sequences() -> [Tally; 8] {
+pub fn random_sequences() -> Vec<Tally> {
     let mut sequences = Sequences::new();
     (0..SEQUENCES).for_each(|_| sequences.one());
     sequences.rows()
@@ -28,8 +29,7 @@ struct Sequences {
     number: u64,
     units: Tally,
     streams: Tally,
-    emptied: Tally,
-    kept: Tally,
+    named: Named,
     lookups: Tally,
     lists: Tally,
     read_again: Tally,
@@ -49,8 +49,7 @@ impl Sequences {
             number: 0,
             units: Tally::new("sequences: units alone"),
             streams: Tally::new("sequences: streams"),
-            emptied: Tally::new("sequences: places emptied"),
-            kept: Tally::new("sequences: places kept, the header refused"),
+            named: Named::new("sequences"),
             lookups: Tally::new("sequences: lookups"),
             lists: Tally::new("sequences: lists at a cut"),
             read_again: Tally::new("sequences: lists read into a new table"),
@@ -58,17 +57,11 @@ impl Sequences {
         }
     }
 
-    fn rows(self) -> [Tally; 8] {
-        [
-            self.units,
-            self.streams,
-            self.emptied,
-            self.kept,
-            self.lookups,
-            self.lists,
-            self.read_again,
-            self.ends,
-        ]
+    fn rows(self) -> Vec<Tally> {
+        let mut rows = vec![self.units, self.streams];
+        rows.extend(self.named.0);
+        rows.extend([self.lookups, self.lists, self.read_again, self.ends]);
+        rows
     }
 
     /// Calls to a new table, and after a cut also to the table that its list made.
@@ -103,13 +96,14 @@ impl Sequences {
         }
     }
 
-    /// A length for a work buffer of which `due` bytes are needed.
-    fn room(&mut self, due: usize) -> usize {
+    /// A length for a work buffer of which `due` bytes are needed for `len` bytes of input.
+    fn room(&mut self, due: usize, len: usize) -> usize {
         match self.random.below(16) {
             0 => due.saturating_sub(1),
             1 => [0, self.random.below(due + 1)][self.random.below(2)],
             2..=5 => due + 1 + self.random.below(40),
-            6 => due + self.random.below(1_000),
+            6 => due + self.random.below(3_000),
+            7 | 8 => due.max(len),
             _ => due,
         }
     }
@@ -142,22 +136,21 @@ impl Sequences {
     }
 
     fn unit(&mut self, tables: &mut [Both], unit: &[u8]) {
-        let room = self.room(unit.len().saturating_sub(2));
+        let room = self.room(sets::work_due(unit), unit.len());
         let work = self.filled(room);
         for both in tables {
             both.unit(&mut self.units, self.number, unit, &work);
-            both.emptied(&mut self.emptied, &mut self.lent, self.number);
-            both.kept(&mut self.kept, &mut self.lent, self.number);
+            both.named(&mut self.named, &mut self.lent, self.number);
         }
     }
 
     fn stream(&mut self, tables: &mut [Both], stream: &[u8]) {
-        let room = self.room(stream.len());
+        let due = split(stream).map_or(0, |units| work_due(&units));
+        let room = self.room(due, stream.len());
         let work = self.filled(room);
         for both in tables {
             both.stream(&mut self.streams, self.number, stream, &work);
-            both.emptied(&mut self.emptied, &mut self.lent, self.number);
-            both.kept(&mut self.kept, &mut self.lent, self.number);
+            both.named(&mut self.named, &mut self.lent, self.number);
         }
     }
 
@@ -189,7 +182,8 @@ impl Sequences {
         }
         let Ok(list) = list else { return };
         let mut second = self.new_table();
-        let room = list.len() + [0, 9][self.random.below(2)];
+        let due = split(&list).map_or(0, |units| work_due(&units));
+        let room = due + [0, 9][self.random.below(2)];
         let work = self.filled(room);
         second.stream(&mut self.read_again, self.number, &list, &work);
         assert!(
@@ -199,9 +193,7 @@ impl Sequences {
         tables.truncate(1);
         tables.push(second);
         for both in &*tables {
-            for name in names() {
-                both.lookup(&mut self.read_again, &mut self.lent, self.number, name);
-            }
+            both.places(&mut self.read_again, &mut self.lent, self.number);
         }
     }
 

@@ -24,12 +24,12 @@ pub fn good_header(random: &mut Random) -> Header {
     headers::good(random, unit_type)
 }
 
-/// An output just long enough, one byte less, longer, of a header's length, shorter, and empty.
-fn unit_into_each_room(t: &mut Tally, set: &[i64], header: Header) {
+/// An output just long enough, one byte less, longer, of a header's length, shorter, empty, and long enough for every set.
+pub fn unit_into_each_room(t: &mut Tally, set: &[i64], header: Header) {
     let due = expected::written::write_nal(set, header, &[FILLER; 5_000])
         .0
         .unwrap_or(3);
-    for room in [due, due - 1, due + 7, 2, 1, 0] {
+    for room in [due, due - 1, due + 7, 2, 1, 0, 5_000] {
         unit(t, set, header, room);
     }
 }
@@ -57,7 +57,7 @@ pub fn any_units() -> Tally {
 pub fn header_limits() -> Tally {
     let mut t = Tally::new("units written: limits of a header together");
     let mut random = Random::new(28);
-    for round in 0..24 {
+    for round in 0..30 {
         let good = in_range(&mut random, round);
         for (id, extension) in [(good[1], 0), (good[1], 1), (8, 0)] {
             let mut set = good.clone();

@@ -15,7 +15,7 @@ use Rattle.bitstream.specs.Outcome.{value, refused, ◌then◌}
 use Rattle.bitstream.specs.declared.Refusal.{Refusal}
 use Rattle.aps.specs.Codec.{Codec, Inferred, when, each_from, each}
 use Rattle.aps.specs.Elements.{no_pair, every, zipped, apart, rows_of}
-use Rattle.aps.specs.Writes.{writes, written, Wrote, unsent}
+use Rattle.aps.specs.Writes.{writes, written, Wrote, unsent, kept}
 use Rattle.aps.specs.declared.writer.Writer.{Writer}
 use Rattle.aps.proofs.EachLaws.{each_same}
 use Rattle.aps.proofs.ElementLaws.{length-rows}
@@ -23,7 +23,7 @@ use Rattle.aps.proofs.PairLaws.{zipped-length}
 use Rattle.aps.proofs.WriterLaws.{writes-none, writes-nil, writes-cons, writes-via, wrote_as, wrote-when, wrote-via, Writing, writing_start, writing_more, writing-refused}
 
 -- what a test of the rest gives as an outcome
-unsent-written : (b : Bool) (w : Writer) → written (unsent b) w ≡ cond b (value w.buffer w.at) (refused 2)
+unsent-written : (b : Bool) (w : Writer) → written (unsent b) w ≡ cond b (value (kept w) w.at) (refused 2)
 unsent-written true w = refl
 unsent-written false w = refl
 
@@ -79,7 +79,7 @@ module _ {A : Type 0} (d : Inferred A) (c : Codec A) (n : ℕ) where
         rw e
         (record {
           answer =
-              unsent-written (every d.is (drop n xs)) now ∙ sym (writes-rest n (N - n) (drop n xs) now.buffer now.at (omega arith) size) ∙ (rw h at w.rest);
+              unsent-written (every d.is (drop n xs)) now ∙ sym (writes-rest n (N - n) (drop n xs) (kept now) now.at (omega arith) size) ∙ (rw h at w.rest);
         })
 
 -- ---- the test that an entry is sent, written otherwise
@@ -141,7 +141,7 @@ module _ {A B : Type 0} where
   pub apart-wrote : {c : Codec (List (A × B))} {a : List A} {b : List B} {before after : Writer} {r : Result (Unit {0}) Refusal} → length b ≡ length a
       → Wrote (apart c) (a, b) before after r → Wrote c (zipped a b) before after r
   unfolding apart
-  apart-wrote {c} {a} {b} {before} e w = wrote_as (writes-via _ _ _ c (a, b) before.buffer before.at ∙ rw (eq-eqb (length a) (length b) (sym e))) w
+  apart-wrote {c} {a} {b} {before} e w = wrote_as (writes-via _ _ _ c (a, b) (kept before) before.at ∙ rw (eq-eqb (length a) (length b) (sym e))) w
 
 -- ---- rows of flat arrays
 

@@ -23,11 +23,12 @@ use Rattle.bitstream.proofs.WriteLaws.{field-split, ue-top, length-field, write-
 use Rattle.aps.specs.Codec.{u, ue, ◌▷◌, via, judged, when}
 use Rattle.aps.specs.Elements.{flag, ue_to, se, se_in, signed}
 use Rattle.aps.specs.AlfSyntax.{coefficient}
-use Rattle.aps.specs.Writes.{writes, Wrote, unsent}
+use Rattle.aps.specs.Writes.{writes, Wrote, unsent, kept, place_of}
 use Rattle.aps.specs.declared.writer.Writer.{Writer}
 use Rattle.aps.proofs.ElementLaws.{zeros-mono, ue-most, flag-most}
 use Rattle.aps.proofs.SignedLaws.{not_lt_z}
 use Rattle.aps.proofs.ScalingLaws.{se8-law, code-le}
+use Rattle.aps.proofs.KeptLaws.{place-trailing}
 use Rattle.aps.proofs.WriterLaws.{writes-taken, wrote_as, wrote-via}
 use Rattle.std.proofs.lemmas.Bool.{and_from}
 
@@ -178,14 +179,14 @@ zero-wrote {s = s} {x} {before} {after} {r} z e w = rw z (go s e)
   where
     go : (s : Bool) → Ok x ≡ unsent (not s) → Wrote coefficient (0, s) before after r
     go true e = absurd (cc)
-    go false e = wrote_as (sym (zero-writes false before.buffer before.at)) w
+    go false e = wrote_as (sym (zero-writes false (kept before) before.at)) w
 
 -- 0 with its sign set is not taken
 pub zero-refused : {m : ℕ} {s : Bool} {why : Refusal} {before : Writer} → m ≡ 0 → Err why ≡ unsent (not s) → Wrote coefficient (m, s) before before (Err why)
 zero-refused {s = s} {why} {before} z e = rw z (go s e)
   where
     go : (s : Bool) → Err why ≡ unsent (not s) → Wrote coefficient (0, s) before before (Err why)
-    go true e = rw e (record { answer = sym (zero-writes true before.buffer before.at) })
+    go true e = rw e (record { answer = sym (zero-writes true (kept before) before.at) })
     go false e = absurd (cc)
 
 module _ (m : ℕ) (s : Bool) (some : m ≡ 0 → ⊥) (small : m ≤ 128) where
@@ -224,15 +225,18 @@ module _ (m : ℕ) (s : Bool) (some : m ≡ 0 → ⊥) (small : m ≤ 128) where
       let n = 2 * ue_zeros m + 2 in
       let v = 2 * (m + 1) + cond s 1 0 in
       wrote_as
-      (writes-taken (u n) v before.buffer before.at (u-fits n v coefficient-small)
-      ∙ ap (λ (l : List ℕ). value (put_bits before.buffer before.at l) (before.at + length l)) coefficient-bits
-      ∙ sym (writes-taken coefficient (m, s) before.buffer before.at coefficient-fits)) w
+      (writes-taken (u n) v (kept before) before.at (u-fits n v coefficient-small)
+      ∙ ap (λ (l : List ℕ). value (put_bits (kept before) before.at l) (before.at + length l)) coefficient-bits
+      ∙ sym (writes-taken coefficient (m, s) (kept before) before.at coefficient-fits)) w
 
 -- ---- what closes an RBSP
 
--- the stop bit and zeros to the end of the byte are written where there is room for a byte
-pub trailing-wrote : (out : List ℕ) (p : ℕ) → (p + 8 ≤ length out * 8) × (p ≤ 1048576) → write_trailing_at out p ≡ value (put_bits out p (trailing_bits p)) (p + length (trailing_bits p))
+-- the stop bit and zeros to the end of the byte are written at their place where there is room for a byte
+pub trailing-wrote : (out : List ℕ) (p place : ℕ) → place ≡ place_of p → (place + 8 ≤ length out * 8) × (place ≤ 1048576)
+    → write_trailing_at out place ≡ value (put_bits out place (trailing_bits p)) (place + length (trailing_bits p))
 unfolding write_trailing_at
-trailing-wrote out p h =
-    let t = length-trailing p in
-    put-fits out p (trailing_bits p) h.1 (omega (arith, due-some p (trailing_bits p) (omega arith)))
+trailing-wrote out p place e h =
+    let t = length-trailing place in
+    let k : trailing_bits place ≡ trailing_bits p = ap trailing_bits e ∙ place-trailing p in
+    put-fits out place (trailing_bits place) h.1 (omega (arith, due-some place (trailing_bits place) (omega arith)))
+    ∙ ap (λ (bs : List ℕ). value (put_bits out place bs) (place + length bs)) k

@@ -32,6 +32,7 @@ pub mod ScalingKeep
 pub mod ScalingSteps
 pub mod RbspSteps
 pub mod UnitSteps
+pub mod KeptLaws
 pub mod WriterLaws
 pub mod FieldWrites
 pub mod EntryWrites

@@ -17,7 +17,7 @@ use Rattle.aps.specs.AlfSyntax.{ceil_log2, coefficient, luma_syntax, to_luma, fr
 use Rattle.aps.specs.ScalingSyntax.{diag_next, diag_scan, skipped, matrix_size, entries, max_id_delta, id_coded, step, sums, coefficients, entry_syntax, scaling_syntax, filled, keep, looked, look}
 use Rattle.aps.specs.ApsSyntax.{zero_alf, zero_lmcs, zero_scaling, payload, aps_syntax, to_aps, from_aps, aps}
 use Rattle.aps.specs.Rbsp.{closed, read_rbsp, parse_aps_rbsp, rbsp_bits, rbsp_bytes}
-use Rattle.aps.specs.Writing.{bytes_due, rbsp_due, write_aps}
+use Rattle.aps.specs.Writing.{bytes_due, rbsp_due, not_long, write_aps}
 use Rattle.aps.specs.declared.aps.ApsKind.{ApsKind}
 use Rattle.aps.specs.declared.aps.VvcAps.{VvcAps}
 
@@ -132,5 +132,5 @@ rows =
 
 -- each row is as the definitions give it
 pub marked-rows : map computed rows ≡ rows
-unfolding rows bit_at field_at field_bits put_in_byte put_bit put_bits pack read_u lacks zero_at zeros_at suffix_at ue_value ue_from read_ue ue_asked ue_zeros ue_bits se_value se_code trailing_value trailing_width trailing_bits read_trailing escape_from unescape_from put_bytes ebsp_to_rbsp rbsp_to_ebsp count_leading_zeros whole u ue ◌▷◌ via judged when each_from provided never flag ue_to se se_in signed apart flat in_range lmcs_syntax to_lmcs from_lmcs lmcs ceil_log2 coefficient luma_syntax to_luma from_luma luma alternative chroma_syntax to_chroma from_chroma chroma cc_syntax to_cc from_cc cc alf_syntax to_alf from_alf alf diag_next diag_scan skipped matrix_size entries max_id_delta id_coded step sums coefficients entry_syntax scaling_syntax filled keep looked look zero_alf zero_lmcs zero_scaling payload aps_syntax to_aps from_aps aps closed read_rbsp parse_aps_rbsp rbsp_bits rbsp_bytes bytes_due rbsp_due write_aps
+unfolding rows bit_at field_at field_bits put_in_byte put_bit put_bits pack read_u lacks zero_at zeros_at suffix_at ue_value ue_from read_ue ue_asked ue_zeros ue_bits se_value se_code trailing_value trailing_width trailing_bits read_trailing escape_from unescape_from put_bytes ebsp_to_rbsp rbsp_to_ebsp count_leading_zeros whole u ue ◌▷◌ via judged when each_from provided never flag ue_to se se_in signed apart flat in_range lmcs_syntax to_lmcs from_lmcs lmcs ceil_log2 coefficient luma_syntax to_luma from_luma luma alternative chroma_syntax to_chroma from_chroma chroma cc_syntax to_cc from_cc cc alf_syntax to_alf from_alf alf diag_next diag_scan skipped matrix_size entries max_id_delta id_coded step sums coefficients entry_syntax scaling_syntax filled keep looked look zero_alf zero_lmcs zero_scaling payload aps_syntax to_aps from_aps aps closed read_rbsp parse_aps_rbsp rbsp_bits rbsp_bytes bytes_due rbsp_due not_long write_aps
 marked-rows = refl

@@ -2,7 +2,7 @@
 use mathlib.Core.Path.{◌≡◌, refl, sym, ap, ◌∙◌}
 use mathlib.Core.Bool.{Bool, true, false, cond}
 use mathlib.Core.List.{List, ◌++◌}
-use Prim.Native.Nat.{ℕ, suc, ◌+◌, ◌*◌, ◌-◌, ◌/◌, ◌%◌, ◌^◌, ◌≤◌, ◌<◌}
+use Prim.Native.Nat.{ℕ, zero, suc, ◌+◌, ◌*◌, ◌-◌, ◌/◌, ◌%◌, ◌^◌, ◌≤◌, ◌<◌}
 use native.Mathlib.Nat.{zero-add, zero-div}
 use native.Mathlib.Omega.{arith}
 use lib.ListN.{length, get_or, take, length-append}
@@ -173,15 +173,27 @@ module _ (s : List ℕ) (a : VvcAps) (q : ℕ) (e : read_rbsp s ≡ value a q) w
       let f = bits-plain a x in
       pack-is (rbsp_bits a) (bits-rbsp a (rbsp-sound s a q e).0) s (q / 8) y (rw f at h) (omega (arith, rw f at n, length-rbsp a)) (omega (arith, rbsp-end))
 
--- the most bytes that a set of each kind takes
-most_bytes_lem : (k : ApsKind) (n m : ℕ) → n ≤ 10 + payload_bits (number_of k) → m ≤ n + (8 - n % 8) → m ≤ 8 * most_bytes (number_of k)
-most_bytes_lem ApsKind.Alf n m h l = omega arith
-most_bytes_lem ApsKind.Lmcs n m h l = omega arith
-most_bytes_lem ApsKind.Scaling n m h l = omega arith
+-- the most bytes that a set of each kind takes by its syntax
+abbrev pub most_sent : ℕ → ℕ
+most_sent zero = 832
+most_sent (suc zero) = 37
+most_sent (suc (suc k)) = 2931
+
+most-sent : (k : ApsKind) (n m : ℕ) → n ≤ 10 + payload_bits (number_of k) → m ≤ n + (8 - n % 8) → m ≤ 8 * most_sent (number_of k)
+most-sent ApsKind.Alf n m h l = omega arith
+most-sent ApsKind.Lmcs n m h l = omega arith
+most-sent ApsKind.Scaling n m h l = omega arith
+
+-- those of an RBSP that is not too long
+most-of : (k : ApsKind) (m : ℕ) → m ≤ 8 * most_sent (number_of k) → m ≤ 8 * 2048 → m ≤ 8 * most_bytes (number_of k)
+most-of ApsKind.Alf m h l = h
+most-of ApsKind.Lmcs m h l = h
+most-of ApsKind.Scaling m h l = l
 
 -- a set that is read ends within the most bytes of its kind
-pub read-most : (s : List ℕ) (a : VvcAps) (q : ℕ) → read_rbsp s ≡ value a q → q ≤ 8 * most_bytes (number_of a.kind)
-read-most s a q e = most_bytes_lem a.kind (length (aps.emit a)) q (aps-most a (rbsp-sound s a q e).0) (go a.aps_extension_flag refl)
+pub read-most : (s : List ℕ) (a : VvcAps) (q : ℕ) → read_rbsp s ≡ value a q → length s ≤ 2048 → q ≤ 8 * most_bytes (number_of a.kind)
+read-most s a q e l =
+    most-of a.kind q (most-sent a.kind (length (aps.emit a)) q (aps-most a (rbsp-sound s a q e).0) (go a.aps_extension_flag refl)) (omega (arith, rbsp-end s a q e, l))
   where
     go : (b : Bool) → a.aps_extension_flag ≡ b → q ≤ length (aps.emit a) + (8 - length (aps.emit a) % 8)
     go true x = omega (arith, (read-stands s a q e).1, ap length (bits-extended a x))
@@ -211,8 +223,12 @@ module _ (a : VvcAps) (o : aps.ok a ≡ true) where
   rbsp-some = omega (arith, length-bytes, length-rbsp a)
 
   -- and at most 832, 37 and 2,931 by kind
-  pub rbsp-most : length (rbsp_bytes a) ≤ most_bytes (number_of a.kind)
-  rbsp-most = omega (arith, length-bytes, most_bytes_lem a.kind (length (aps.emit a)) (length (rbsp_bits a)) (aps-most a o) (omega (arith, length-rbsp a)))
+  pub rbsp-sent : length (rbsp_bytes a) ≤ most_sent (number_of a.kind)
+  rbsp-sent = omega (arith, length-bytes, most-sent a.kind (length (aps.emit a)) (length (rbsp_bits a)) (aps-most a o) (omega (arith, length-rbsp a)))
+
+  -- or fewer where it is not too long
+  pub rbsp-most : length (rbsp_bytes a) ≤ 2048 → length (rbsp_bytes a) ≤ most_bytes (number_of a.kind)
+  rbsp-most l = omega (arith, most-of a.kind (8 * length (rbsp_bytes a)) (omega (arith, rbsp-sent)) (omega (arith, l)))
 
   -- the stop bit
   stop-one : bit_at (rbsp_bytes a) (length (aps.emit a)) ≡ 1
@@ -231,3 +247,10 @@ module _ (a : VvcAps) (o : aps.ok a ≡ true) where
       let w : get_or (rbsp_bytes a) (m / 8) 0 ≡ 0 = rw i z in
       let b : 0 / 2 ^ (7 - m % 8) % 2 ≡ 1 = rw w at stop-one in
       omega (arith, zero-div (2 ^ (7 - m % 8)))
+
+-- a set that was read has no more bytes than what it was read from
+pub length-read : (s : List ℕ) (a : VvcAps) (q : ℕ) → read_rbsp s ≡ value a q → a.aps_extension_flag ≡ false → length (rbsp_bytes a) ≤ length s
+length-read s a q e x =
+    let o = (rbsp-sound s a q e).0 in
+    let (h, n) = read-stands s a q e in
+    omega (arith, n, ap length (bits-plain a x), length-bytes a o, rbsp-end s a q e)

@@ -178,25 +178,25 @@ set-closed s h {kind} d l c q k e f = rw f (go (ended s q)) ∙ ended-finished s
 
 -- ---- the limit of the call
 
-pub too_long : (s : List ℕ) → 65536 < length s → parse_aps_rbsp s ≡ refused 4
+pub too_long : (s : List ℕ) → 2048 < length s → parse_aps_rbsp s ≡ refused 4
 unfolding parse_aps_rbsp
 too_long s h = rw (lt-ltb _ _ h)
 
-pub in-limits : (s : List ℕ) → length s ≤ 65536 → parse_aps_rbsp s ≡ read_rbsp s
+pub in-limits : (s : List ℕ) → length s ≤ 2048 → parse_aps_rbsp s ≡ read_rbsp s
 unfolding parse_aps_rbsp
 in-limits s h = rw (le-ltb _ _ h)
 
 -- ---- what stands before the payload, as the reader takes it
 
 -- what is read of the opened bytes
-pub opened : {s b : List ℕ} → length s ≤ 65536 → b ≡ s → read_rbsp b ≡ parse_aps_rbsp s
+pub opened : {s b : List ℕ} → length s ≤ 2048 → b ≡ s → read_rbsp b ≡ parse_aps_rbsp s
 opened {s} short e = ap read_rbsp e ∙ sym (in-limits s short)
 
 -- what `?` returns
 pub opens-exit : (r : Result Opened Refusal) (e : Refusal) (s : List ℕ) → IsErrAnd r (λ y. y ≡ e) → parse_aps_rbsp s ≡ refused (number e) → Opens s r
 opens-exit r e s h k = let p = err_from_is_err_and r h in rw (p.1, p.2) k
 
-module _ {s : List ℕ} {w0 : Reader} (short : length s ≤ 65536) (new : (w0.bytes.now ≡ s) × (w0.at ≡ 0)) where
+module _ {s : List ℕ} {w0 : Reader} (short : length s ≤ 2048) (new : (w0.bytes.now ≡ s) × (w0.at ≡ 0)) where
   pub open-refused : {n : ℕ} {w1 : Reader} → Reads aps (refused n) w0 w1 → parse_aps_rbsp s ≡ refused n
   open-refused r = in-limits s short ∙ not-read s (rw (new.0, new.1) at r.field)
 

@@ -1,21 +1,21 @@
 -- A set's payload, the set, and its RBSP.
-use borrow.Author.Tests.{le-leb, lt-leb}
+use borrow.Author.Tests.{le-leb, lt-leb, lt-ltb, le-ltb, ltb-false}
 use mathlib.Core.Path.{◌≡◌, refl, sym, ap, ◌∙◌}
 use mathlib.Core.Bool.{Bool, true, false, cond, and-false}
 use mathlib.Core.List.{List}
-use Prim.Native.Nat.{ℕ, zero, suc, ◌+◌, ◌-◌, ◌/◌, ◌%◌, ◌≤◌, ◌<◌}
+use Prim.Native.Nat.{ℕ, zero, suc, ◌+◌, ◌-◌, ◌/◌, ◌≤◌, ◌<◌}
 use native.Mathlib.Nat.{zero-add}
 use native.Mathlib.Omega.{arith}
-use lib.Dec.{leb}
+use lib.Dec.{leb, ltb}
 use lib.ListN.{length, take, replicate}
 use Rattle.std.proofs.Common.{Result, Ok, Err}
+use Rattle.std.proofs.lemmas.List.{take-replicate}
 use Rattle.std.proofs.lemmas.Result.{err_from_is_err_and}
 use Rattle.std.specs.Result.{IsErrAnd}
 use Rattle.bitstream.specs.Outcome.{Outcome, value, refused, number}
 use Rattle.bitstream.specs.declared.Refusal.{Refusal}
 use Rattle.bitstream.specs.Bits.{put_bits, pack, Holds}
 use Rattle.bitstream.specs.Fields.{trailing_bits}
-use Rattle.bitstream.specs.Writing.{write_trailing_at}
 use Rattle.bitstream.proofs.CodeLaws.{value-refused}
 use Rattle.bitstream.proofs.WriteLaws.{puts-append, length-trailing}
 use Rattle.bitstream.proofs.KeepLaws.{Bytes, length-puts, bytes-puts, puts-hold}
@@ -27,15 +27,14 @@ use Rattle.aps.specs.LmcsSyntax.{lmcs}
 use Rattle.aps.specs.ScalingSyntax.{Entry, scaling_syntax}
 use Rattle.aps.specs.ApsSyntax.{Payload, of_alf, of_lmcs, of_scaling, alf_in, lmcs_in, entries_in, is_alf, is_lmcs, is_scaling, payload, ApsData, aps_syntax, to_aps, from_aps, aps}
 use Rattle.aps.specs.Rbsp.{rbsp_bits, rbsp_bytes}
-use Rattle.aps.specs.Writes.{writes, written, closed, Wrote}
+use Rattle.aps.specs.Writes.{writes, kept, closed, Wrote}
 use Rattle.aps.specs.declared.writer.Writer.{Writer}
-use Rattle.aps.specs.Writing.{bytes_due, rbsp_due}
+use Rattle.aps.specs.Writing.{not_long, rbsp_due, bytes_due}
 use Rattle.aps.specs.declared.aps.VvcAps.{VvcAps}
 use Rattle.aps.specs.declared.alf.VvcAlfData.{VvcAlfData}
 use Rattle.aps.specs.declared.lmcs.VvcLmcsData.{VvcLmcsData}
 use Rattle.aps.proofs.PackLaws.{pack-is}
 use Rattle.aps.proofs.RbspLaws.{length-rbsp, bits-rbsp}
-use Rattle.aps.proofs.FieldWrites.{trailing-wrote}
 use Rattle.aps.proofs.WriterLaws.{wrote-judged, wrote-provided, wrote-via}
 
 -- ---- the payload
@@ -97,72 +96,87 @@ module _ (set : VvcAps) where
   unfolding writes rbsp_due
   due-refused {before} {why = why} w = go (aps.ok set) w.answer
     where
-      go : (b : Bool) → refused (number why) ≡ cond b (value (put_bits before.buffer before.at (aps.emit set)) (before.at + length (aps.emit set))) (refused 2)
-          → refused (number why) ≡ cond b (value (rbsp_bytes set) (length (rbsp_bytes set))) (refused 2)
+      go : (b : Bool) → refused (number why) ≡ cond b (value (put_bits (kept before) before.at (aps.emit set)) (before.at + length (aps.emit set))) (refused 2)
+          → refused (number why) ≡ cond b (not_long (rbsp_bytes set)) (refused 2)
       go true e = absurd (value-refused (sym e))
       go false e = e
 
-  module _ (before mid : Writer) (start : before.at ≡ 0) (zeros : before.buffer ≡ replicate 4096 0) (w : Wrote aps set before mid (Ok tt)) (l : mid.at ≤ 31258) where
+  module _ (before mid after : Writer) (start : before.at ≡ 0) (zeros : before.buffer ≡ replicate 2064 0) (w : Wrote aps set before mid (Ok tt))
+      (e : value (kept after) after.at ≡ value (put_bits (kept mid) mid.at (trailing_bits mid.at)) (mid.at + length (trailing_bits mid.at))) where
     n : ℕ
     n = length (aps.emit set)
 
-    -- the set stands at the start of the buffer
-    set-put : (aps.ok set ≡ true) × (mid.buffer ≡ put_bits before.buffer 0 (aps.emit set)) × (mid.at ≡ n)
+    -- the bytes kept are zeros at the start
+    kept-zeros : kept before ≡ replicate 2048 0
+    unfolding kept
+    kept-zeros = rw zeros (take-replicate 2048 2064 0 (omega arith))
+
+    -- the set stands at the start of them
+    set-put : (aps.ok set ≡ true) × (kept mid ≡ put_bits (kept before) 0 (aps.emit set)) × (mid.at ≡ n)
     unfolding writes n
-    set-put = go (aps.ok set) refl (rw start at w.answer)
+    set-put = go (aps.ok set) refl (w.answer ∙ ap (λ (p : ℕ). writes aps set (kept before) p) start)
       where
-        go : (b : Bool) → aps.ok set ≡ b → value mid.buffer mid.at ≡ cond b (value (put_bits before.buffer 0 (aps.emit set)) (0 + length (aps.emit set))) (refused 2)
-            → (aps.ok set ≡ true) × (mid.buffer ≡ put_bits before.buffer 0 (aps.emit set)) × (mid.at ≡ length (aps.emit set))
+        go : (b : Bool) → aps.ok set ≡ b → value (kept mid) mid.at ≡ cond b (value (put_bits (kept before) 0 (aps.emit set)) (0 + length (aps.emit set))) (refused 2)
+            → (aps.ok set ≡ true) × (kept mid ≡ put_bits (kept before) 0 (aps.emit set)) × (mid.at ≡ length (aps.emit set))
         go true o f = let g : mid.at ≡ 0 + length (aps.emit set) = cc in (o, cc, g ∙ zero-add _)
         go false o f = absurd (value-refused f)
 
-    -- which is as long as before
-    room : length mid.buffer ≡ 4096
-    room = ap length set-put.1 ∙ length-puts before.buffer 0 (aps.emit set) ∙ rw zeros
-
-    -- and there is room for its end
-    end-put : write_trailing_at mid.buffer mid.at ≡ value (put_bits mid.buffer mid.at (trailing_bits mid.at)) (mid.at + length (trailing_bits mid.at))
-    end-put = trailing-wrote mid.buffer mid.at (omega (arith, room), omega arith)
-
-    -- the set and its end are the bytes due
-    due-written : (out : List ℕ) (end : ℕ) → value out end ≡ write_trailing_at mid.buffer mid.at → value (take (end / 8) out) (end / 8) ≡ rbsp_due set
-    unfolding rbsp_bits rbsp_bytes rbsp_due n
-    due-written out end f =
+    -- and its end after it
+    end-put : (kept after ≡ put_bits (kept before) 0 (rbsp_bits set)) × (after.at ≡ length (rbsp_bits set))
+    unfolding rbsp_bits n
+    end-put =
         let at = mid.at in
         let (o, p, q) = set-put in
-        let g : value out end ≡ value (put_bits mid.buffer at (trailing_bits at)) (at + length (trailing_bits at)) = f ∙ end-put in
-        let x : out ≡ put_bits mid.buffer at (trailing_bits at) = cc in
-        let y : end ≡ at + length (trailing_bits at) = cc in
-        let b = rbsp_bits set in
-        let t = length-trailing at in
-        let r : length b ≡ n + (8 - n % 8) = length-rbsp set in
+        let x : kept after ≡ put_bits (kept mid) at (trailing_bits at) = cc in
+        let y : after.at ≡ at + length (trailing_bits at) = cc in
         let z : 0 + length (aps.emit set) ≡ at = zero-add _ ∙ sym q in
-        let w : put_bits before.buffer 0 b ≡ out = puts-append before.buffer 0 (aps.emit set) (trailing_bits n) ∙ rw z (rw (sym p, sym q) (sym x)) in
-        let m : length before.buffer ≡ 4096 = rw zeros in
-        let h : Holds out 0 b = rw w at (puts-hold before.buffer 0 b (omega arith) (bits-rbsp set o)) in
-        let k : Bytes out = rw (← w) (bytes-puts before.buffer 0 b (omega arith) (bits-rbsp set o) (rw zeros (zero-bytes 4096))) in
-        let c : length out ≡ 4096 = rw (← w) (length-puts before.buffer 0 b ∙ m) in
-        let s : end / 8 ≡ length (pack b) = omega (arith, length-pack b) in
-        rw (← pack-is b (bits-rbsp set o) out (end / 8) k h (omega arith) (omega arith), s, o)
+        let s : put_bits (kept before) 0 (rbsp_bits set) ≡ kept after = puts-append (kept before) 0 (aps.emit set) (trailing_bits n) ∙ rw z (rw (sym p, sym q) (sym x)) in
+        (sym s, omega (arith, length-rbsp set, length-trailing at))
 
-    -- and the end is never refused
-    pub due-closed : (r : Result (Unit {0}) Refusal) (after : Writer) → written r after ≡ write_trailing_at mid.buffer mid.at → closed r after ≡ rbsp_due set
-    due-closed (Ok x) after e = due-written after.buffer after.at e
-    due-closed (Err why) after e = absurd (value-refused (sym (e ∙ end-put)))
+    -- they are whole bytes
+    whole-bytes : length (rbsp_bytes set) ≡ after.at / 8
+    unfolding rbsp_bytes n
+    whole-bytes = omega (arith, end-put.1, length-pack (rbsp_bits set), length-rbsp set)
+
+    -- over 2,048 they are refused
+    pub due-long : 16384 < after.at → refused 4 ≡ rbsp_due set
+    unfolding rbsp_due not_long n
+    due-long h =
+        let (o, p, q) = set-put in
+        let l : 2048 < length (rbsp_bytes set) = omega (arith, whole-bytes, end-put.1, length-rbsp set) in
+        rw (o, lt-ltb 2048 (length (rbsp_bytes set)) l)
+
+    -- else they are the bytes due
+    pub due-written : after.at ≤ 16384 → value (take (after.at / 8) (kept after)) (after.at / 8) ≡ rbsp_due set
+    unfolding rbsp_due not_long rbsp_bytes
+    due-written h =
+        let (o, p, q) = set-put in
+        let (x, y) = end-put in
+        let b = rbsp_bits set in
+        let m : length (kept before) ≡ 2048 = rw kept-zeros in
+        let a : Holds (kept after) 0 b = rw (← x) at (puts-hold (kept before) 0 b (omega arith) (bits-rbsp set o)) in
+        let k : Bytes (kept after) = rw x (bytes-puts (kept before) 0 b (omega arith) (bits-rbsp set o) (rw kept-zeros (zero-bytes 2048))) in
+        let c : length (kept after) ≡ 2048 = rw x (length-puts (kept before) 0 b ∙ m) in
+        let s : after.at / 8 ≡ length (pack b) = sym whole-bytes in
+        let l : length (pack b) ≤ 2048 = omega arith in
+        rw (← pack-is b (bits-rbsp set o) (kept after) (after.at / 8) k a (omega (arith, length-rbsp set)) (omega arith), s, o, le-ltb 2048 (length (pack b)) l)
 
 module _ (a : VvcAps) where
-  -- the bytes of a set that is taken are its RBSP
-  pub due-taken : a.aps_extension_flag ≡ false → aps.ok a ≡ true → bytes_due a ≡ value (rbsp_bytes a) (length (rbsp_bytes a))
-  unfolding rbsp_due
-  due-taken x o = due-plain a x ∙ rw o
+  -- the bytes of a set that is taken are its RBSP, if they are not over 2,048
+  pub due-taken : a.aps_extension_flag ≡ false → aps.ok a ≡ true → length (rbsp_bytes a) ≤ 2048 → bytes_due a ≡ value (rbsp_bytes a) (length (rbsp_bytes a))
+  unfolding rbsp_due not_long
+  due-taken x o s = due-plain a x ∙ rw (o, le-ltb 2048 (length (rbsp_bytes a)) s)
 
-  -- a set of which bytes are due is taken, and they are its RBSP
-  pub taken-due : (l : List ℕ) (n : ℕ) → bytes_due a ≡ value l n → (a.aps_extension_flag ≡ false) × (aps.ok a ≡ true) × (l ≡ rbsp_bytes a) × (n ≡ length (rbsp_bytes a))
-  unfolding bytes_due rbsp_due
-  taken-due l n = go a.aps_extension_flag (aps.ok a) refl refl
+  -- a set of which bytes are due is taken, and they are its RBSP, which is not over 2,048
+  pub taken-due : (l : List ℕ) (n : ℕ) → bytes_due a ≡ value l n
+      → (a.aps_extension_flag ≡ false) × (aps.ok a ≡ true) × (l ≡ rbsp_bytes a) × (n ≡ length (rbsp_bytes a)) × (length (rbsp_bytes a) ≤ 2048)
+  unfolding bytes_due rbsp_due not_long
+  taken-due l n = go a.aps_extension_flag (aps.ok a) (ltb 2048 (length (rbsp_bytes a))) refl refl refl
     where
-      go : (x o : Bool) → a.aps_extension_flag ≡ x → aps.ok a ≡ o → cond x (refused 3) (cond o (value (rbsp_bytes a) (length (rbsp_bytes a))) (refused 2)) ≡ value l n
-          → (a.aps_extension_flag ≡ false) × (aps.ok a ≡ true) × (l ≡ rbsp_bytes a) × (n ≡ length (rbsp_bytes a))
-      go true o ex eo e = absurd (value-refused (sym e))
-      go false true ex eo e = let w : rbsp_bytes a ≡ l = cc in let m : length (rbsp_bytes a) ≡ n = cc in (ex, eo, sym w, sym m)
-      go false false ex eo e = absurd (value-refused (sym e))
+      go : (x o t : Bool) → a.aps_extension_flag ≡ x → aps.ok a ≡ o → ltb 2048 (length (rbsp_bytes a)) ≡ t
+          → cond x (refused 3) (cond o (cond t (refused 4) (value (rbsp_bytes a) (length (rbsp_bytes a)))) (refused 2)) ≡ value l n
+          → (a.aps_extension_flag ≡ false) × (aps.ok a ≡ true) × (l ≡ rbsp_bytes a) × (n ≡ length (rbsp_bytes a)) × (length (rbsp_bytes a) ≤ 2048)
+      go true o t ex eo et e = absurd (value-refused (sym e))
+      go false true true ex eo et e = absurd (value-refused (sym e))
+      go false true false ex eo et e = let w : rbsp_bytes a ≡ l = cc in let m : length (rbsp_bytes a) ≡ n = cc in (ex, eo, sym w, sym m, ltb-false 2048 (length (rbsp_bytes a)) et)
+      go false false t ex eo et e = absurd (value-refused (sym e))

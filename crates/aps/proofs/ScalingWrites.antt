@@ -21,7 +21,7 @@ use Rattle.bitstream.specs.Fields.{ue_zeros}
 use Rattle.bitstream.specs.declared.Refusal.{Refusal}
 use Rattle.aps.specs.Codec.{Codec, ◌▷◌, Inferred, when}
 use Rattle.aps.specs.ScalingSyntax.{skipped, entries, max_id_delta, id_coded, just, cons, uncons, some_left, step, step_at, sums, entry_syntax, no_entry, id_at, looked, looked_at, look}
-use Rattle.aps.specs.Writes.{writes, Wrote}
+use Rattle.aps.specs.Writes.{writes, Wrote, kept}
 use Rattle.aps.specs.declared.writer.Writer.{Writer}
 use Rattle.aps.specs.declared.scaling_list.VvcScalingListData.{VvcScalingListData}
 use Rattle.aps.proofs.ElementLaws.{zeros-mono}
@@ -99,14 +99,14 @@ module _ (id i : ℕ) (prev : ℤ) (out : List ℕ) (p : ℕ) where
 module _ (id n : ℕ) (dc : ℤ) (vs : List ℤ) (before : Writer) where
   -- the first i of the sums vs are written, the last of them is prev: what is left to write makes it whole
   pub record Summing (i : ℕ) (prev : ℤ) (now : Writer) : Type 0 where
-    pub rest : writes (sums id i (n - i) prev) (drop i vs) now.buffer now.at ≡ writes (sums id 0 n dc) vs before.buffer before.at
+    pub rest : writes (sums id i (n - i) prev) (drop i vs) (kept now) now.at ≡ writes (sums id 0 n dc) vs (kept before) before.at
 
   -- what is left is one sum and then the others
   rest-step : (i : ℕ) (prev : ℤ) (now : Writer) (v : ℤ) → i < n → drop i vs ≡ v ∷ drop (suc i) vs → Summing i prev now
-      → (writes (step_at id i prev) v now.buffer now.at then λ out q. writes (sums id (suc i) (n - suc i) v) (drop (suc i) vs) out q) ≡ writes (sums id 0 n dc) vs before.buffer before.at
+      → (writes (step_at id i prev) v (kept now) now.at then λ out q. writes (sums id (suc i) (n - suc i) v) (drop (suc i) vs) out q) ≡ writes (sums id 0 n dc) vs (kept before) before.at
   rest-step i prev now v h e w =
       let s : n - i ≡ suc (n - suc i) = omega arith in
-      sym (writes-sums id i prev now.buffer now.at (n - suc i) v (drop (suc i) vs)) ∙ (rw (s, e) at w.rest)
+      sym (writes-sums id i prev (kept now) now.at (n - suc i) v (drop (suc i) vs)) ∙ (rw (s, e) at w.rest)
 
   -- one sum more is written
   pub summing_more : {i : ℕ} {prev : ℤ} {now next : Writer} {v : ℤ} → i < n → drop i vs ≡ v ∷ drop (suc i) vs → Summing i prev now → Wrote (step_at id i prev) v now next (Ok tt)
@@ -126,7 +126,7 @@ module _ (id n : ℕ) (dc : ℤ) (vs : List ℤ) (before : Writer) where
   summing-done {i} {prev} {now} h l w =
       let s : n - n ≡ 0 = omega arith in
       let none : drop n vs ≡ [] = rw (← l) (drop-length vs) in
-      record { answer = sym (writes-none-left id n prev now.buffer now.at) ∙ (rw (h, s, none) at w.rest) }
+      record { answer = sym (writes-none-left id n prev (kept now) now.at) ∙ (rw (h, s, none) at w.rest) }
 
 -- the list of an id in the flat array
 pub row-is : (id : ℕ) {start n : ℕ} (list : List ℤ) → start ≡ id * 64 → n ≡ entries id → take n (drop start list) ≡ take (entries id) (take 64 (drop (id * 64) list))

@@ -4,19 +4,19 @@ use Rattle.std.specs.Prelude.{Result, Ok, Err}
 use mathlib.Core.Path.{◌≡◌, refl, sym, ap, ◌∙◌}
 use mathlib.Core.Bool.{Bool, true, false, cond, ◌&&◌, ◌||◌, false≢true}
 use mathlib.Core.List.{List, [], ◌∷◌, ◌++◌}
-use Prim.Native.Nat.{ℕ, suc, ◌*◌, ◌+◌, ◌-◌, ◌≤◌, ◌/◌, ◌%◌}
+use Prim.Native.Nat.{ℕ, suc, ◌*◌, ◌+◌, ◌-◌, ◌≤◌, ◌<◌, ◌/◌, ◌%◌}
 use native.Mathlib.Omega.{arith}
-use borrow.Author.Tests.{ltb-false, le-ltb, leb-true, eqb-true}
+use borrow.Author.Tests.{ltb-false, le-ltb, lt-ltb, leb-true, leb-false, eqb-true}
 use lib.Dec.{leb, ltb, eqb}
 use lib.ListN.{length, take, drop, get_or, length-drop, length-append}
 use lib.Seq.{take-append_seam, take_all}
-use Rattle.bitstream.specs.Outcome.{Outcome, value, refused, outcome_written, ◌then◌}
+use Rattle.bitstream.specs.Outcome.{Outcome, value, refused, number, left, outcome_written, ◌then◌}
 use Rattle.bitstream.specs.Escapes.{put_bytes, ebsp_to_rbsp}
 use Rattle.bitstream.proofs.CodeLaws.{value-refused}
 use Rattle.bitstream.proofs.EscapeLaws.{unescape-most}
 use Rattle.aps.specs.Rbsp.{read_rbsp, parse_aps_rbsp}
 use Rattle.aps.specs.Inner.{Unwrapped}
-use Rattle.aps.specs.Unit.{is_aps, rbsp_of, header_of, parse_nal_header, kept_of, is_aps_header, zero_bits, judged, unit_header, admitted, parse_aps, work_after}
+use Rattle.aps.specs.Unit.{is_aps, rbsp_of, header_of, parse_nal_header, kept_of, is_aps_header, zero_bits, judged, unit_header, fitting, admitted, parse_aps, work_after}
 use Rattle.aps.specs.Writing.{header_bytes}
 use Rattle.aps.specs.declared.nal_header.VvcNalHeader.{VvcNalHeader}
 use Rattle.aps.specs.declared.unit_header.UnitHeader.{UnitHeader}
@@ -24,16 +24,19 @@ use Rattle.aps.proofs.CodecLaws.{and_left, and_right}
 use Rattle.aps.proofs.RbspSteps.{in-limits}
 
 -- the bytes after the header
-after-header : (u : List ℕ) → take (length u - 2) (drop 2 u) ≡ drop 2 u
+pub after-header : (u : List ℕ) → take (length u - 2) (drop 2 u) ≡ drop 2 u
 after-header u = take_all (length u - 2) (drop 2 u) (omega (arith, length-drop 2 u))
 
--- what the escapes of an admitted unit leave out is put into the work buffer
-rbsp-put : (u w : List ℕ) → length u ≤ 65536 → length u - 2 ≤ length w
-    → ebsp_to_rbsp (take (length u - 2) (drop 2 u)) w ≡ value (rbsp_of u ++ drop (length (rbsp_of u)) w) (length (rbsp_of u))
-unfolding ebsp_to_rbsp put_bytes
-rbsp-put u w h l =
-    let d = length-drop 2 u in
-    rw (after-header u, le-ltb 65536 (length (drop 2 u)) (omega (arith, d)), le-ltb (length w) (length (rbsp_of u)) (omega (arith, d, unescape-most (drop 2 u))))
+-- the RBSP of a unit that has a header is put into a work buffer that has room for it, and else refused
+module _ (u w : List ℕ) (h : length u ≤ 65536) where
+  pub rbsp-put : length (rbsp_of u) ≤ length w
+      → ebsp_to_rbsp (take (length u - 2) (drop 2 u)) w ≡ value (rbsp_of u ++ drop (length (rbsp_of u)) w) (length (rbsp_of u))
+  unfolding ebsp_to_rbsp put_bytes
+  rbsp-put l = rw (after-header u, le-ltb 65536 (length (drop 2 u)) (omega (arith, length-drop 2 u)), le-ltb (length w) (length (rbsp_of u)) l)
+
+  rbsp-refused : length w < length (rbsp_of u) → ebsp_to_rbsp (take (length u - 2) (drop 2 u)) w ≡ refused 5
+  unfolding ebsp_to_rbsp put_bytes
+  rbsp-refused l = rw (after-header u, le-ltb 65536 (length (drop 2 u)) (omega (arith, length-drop 2 u)), lt-ltb (length w) (length (rbsp_of u)) l)
 
 -- it is there in whole
 rbsp-within : (u w v : List ℕ) (n : ℕ) → value (rbsp_of u ++ drop (length (rbsp_of u)) w) (length (rbsp_of u)) ≡ value v n → n ≤ length v
@@ -43,14 +46,13 @@ rbsp-within u w v n e =
     omega (arith, b, ap length a, length-append (rbsp_of u) (drop (length (rbsp_of u)) w))
 
 -- and is what is read there
-rbsp-read : (u w v : List ℕ) (n : ℕ) → length u ≤ 65536 → value (rbsp_of u ++ drop (length (rbsp_of u)) w) (length (rbsp_of u)) ≡ value v n
+rbsp-read : (u w v : List ℕ) (n : ℕ) → length (rbsp_of u) ≤ 2048 → value (rbsp_of u ++ drop (length (rbsp_of u)) w) (length (rbsp_of u)) ≡ value v n
     → read_rbsp (rbsp_of u) ≡ parse_aps_rbsp (take n v)
 rbsp-read u w v n h e =
     let a : rbsp_of u ++ drop (length (rbsp_of u)) w ≡ v = cc in
     let b : length (rbsp_of u) ≡ n = cc in
     let t : take n v ≡ rbsp_of u = rw (sym b, sym a) (take-append_seam (rbsp_of u) (drop (length (rbsp_of u)) w)) in
-    let m : length (rbsp_of u) ≤ 65536 = omega (arith, unescape-most (drop 2 u), length-drop 2 u) in
-    sym (ap parse_aps_rbsp t ∙ in-limits (rbsp_of u) m)
+    sym (ap parse_aps_rbsp t ∙ in-limits (rbsp_of u) h)
 
 -- a unit that has a header: its lengths, and what the header is
 pub header-given : (u : List ℕ) (h : VvcNalHeader) → value h 16 ≡ parse_nal_header u → (2 ≤ length u) × (length u ≤ 65536) × (h ≡ header_of u)
@@ -152,8 +154,8 @@ headed-bytes h l a m =
     let z : (h.nal_unit_type * 8 + h.nuh_temporal_id_plus1) % 8 ≡ h.nuh_temporal_id_plus1 = omega (arith, i) in
     rw (le-ltb 65536 (suc (suc (length l))) m, le-ltb (suc (suc (length l))) 2 (omega arith), f, r, x, y, z, a)
 
--- a unit with such a header goes as far as its RBSP if the work buffer suffices
-pub admitted-by : (u : List ℕ) (room : ℕ) (h : UnitHeader) {p : ℕ} → unit_header u ≡ value h p → admitted u room ≡ cond (ltb room (length u - 2)) (refused 5) (value h 16)
+-- a unit with such a header goes as far as its RBSP if that fits
+pub admitted-by : (u : List ℕ) (room : ℕ) (h : UnitHeader) {p : ℕ} → unit_header u ≡ value h p → admitted u room ≡ (fitting (rbsp_of u) room then λ x q. value h 16)
 unfolding admitted
 admitted-by u room h e = rw e
 
@@ -162,26 +164,55 @@ pub not-admitted : (u : List ℕ) (room n : ℕ) → unit_header u ≡ refused n
 unfolding admitted
 not-admitted u room n e = rw e
 
--- a unit that passes its header: its header, and its lengths
-pub admitted-lengths : (u : List ℕ) (room : ℕ) (h : UnitHeader) {p : ℕ} → admitted u room ≡ value h p → (unit_header u ≡ value h 16) × (2 ≤ length u) × (length u ≤ 65536) × (length u - 2 ≤ room)
+-- an RBSP that is not too long and has room
+pub fits : (r : List ℕ) (room : ℕ) → length r ≤ 2048 → length r ≤ room → fitting r room ≡ value tt 16
+unfolding fitting
+fits r room h l = rw (le-ltb 2048 (length r) h, le-ltb room (length r) l)
+
+-- one that is too long
+pub fits-4 : (r : List ℕ) (room : ℕ) → 2048 < length r → fitting r room ≡ refused 4
+unfolding fitting
+fits-4 r room h = rw (lt-ltb 2048 (length r) h)
+
+-- one that has no room
+pub fits-5 : (r : List ℕ) (room : ℕ) → length r ≤ 2048 → room < length r → fitting r room ≡ refused 5
+unfolding fitting
+fits-5 r room h l = rw (le-ltb 2048 (length r) h, lt-ltb room (length r) l)
+
+-- a unit with a header whose RBSP is too long
+pub too-long : (u : List ℕ) (room : ℕ) (h : UnitHeader) {p : ℕ} → unit_header u ≡ value h p → 2048 < length (rbsp_of u) → admitted u room ≡ refused 4
+too-long u room h e l = admitted-by u room h e ∙ rw (fits-4 (rbsp_of u) room l)
+
+-- what fits is not too long and has room
+pub fitted-lengths : (r : List ℕ) (room : ℕ) {x : Unit {0}} {q : ℕ} → fitting r room ≡ value x q → (length r ≤ 2048) × (length r ≤ room)
+unfolding fitting
+fitted-lengths r room {x} {q} = go (ltb 2048 (length r)) (ltb room (length r)) refl refl
+  where
+    go : (a b : Bool) → ltb 2048 (length r) ≡ a → ltb room (length r) ≡ b → cond a (refused 4) (cond b (refused 5) (value tt 16)) ≡ value x q → (length r ≤ 2048) × (length r ≤ room)
+    go true b ea eb e = absurd (value-refused (sym e))
+    go false true ea eb e = absurd (value-refused (sym e))
+    go false false ea eb e = (ltb-false _ _ ea, ltb-false _ _ eb)
+
+-- a unit that goes as far as its RBSP: its header, and its lengths
+pub admitted-lengths : (u : List ℕ) (room : ℕ) (h : UnitHeader) {p : ℕ} → admitted u room ≡ value h p → (unit_header u ≡ value h 16) × (2 ≤ length u) × (length (rbsp_of u) ≤ 2048) × (length (rbsp_of u) ≤ room)
 unfolding admitted
 admitted-lengths u room h {p} = go (unit_header u) refl
   where
-    go : (o : Outcome UnitHeader) → unit_header u ≡ o → (o then λ h p. cond (ltb room (length u - 2)) (refused 5) (value h 16)) ≡ value h p
-        → (unit_header u ≡ value h 16) × (2 ≤ length u) × (length u ≤ 65536) × (length u - 2 ≤ room)
-    go (refused n) f e = absurd (value-refused (sym e))
-    go (value x q) f e = by (ltb room (length u - 2)) refl e
-      where
-        value-is : {n m : ℕ} → value x n ≡ value h m → x ≡ h
-        value-is e = cc
+    value-is : {x : UnitHeader} {n m : ℕ} → value x n ≡ value h m → x ≡ h
+    value-is e = cc
 
-        by : (b : Bool) → ltb room (length u - 2) ≡ b → cond b (refused 5) (value x 16) ≡ value h p
-            → (unit_header u ≡ value h 16) × (2 ≤ length u) × (length u ≤ 65536) × (length u - 2 ≤ room)
-        by true t e = absurd (value-refused (sym e))
-        by false t e =
-            let g : unit_header u ≡ value h q = f ∙ ap (λ (y : UnitHeader). value y q) (value-is e) in
-            let w = headed u h g in
-            (header-ends u h g, w.two, w.short, ltb-false _ _ t)
+    by : (x : UnitHeader) (q : ℕ) (o : Outcome (Unit {0})) → unit_header u ≡ value x q → fitting (rbsp_of u) room ≡ o → (o then λ y r. value x 16) ≡ value h p
+        → (unit_header u ≡ value h 16) × (2 ≤ length u) × (length (rbsp_of u) ≤ 2048) × (length (rbsp_of u) ≤ room)
+    by x q (refused n) f g e = absurd (value-refused (sym e))
+    by x q (value y r) f g e =
+        let k : unit_header u ≡ value h q = f ∙ ap (λ (y : UnitHeader). value y q) (value-is e) in
+        let (m, l) = fitted-lengths (rbsp_of u) room g in
+        (header-ends u h k, (headed u h k).two, m, l)
+
+    go : (o : Outcome UnitHeader) → unit_header u ≡ o → (o then λ h p. fitting (rbsp_of u) room then λ x q. value h 16) ≡ value h p
+        → (unit_header u ≡ value h 16) × (2 ≤ length u) × (length (rbsp_of u) ≤ 2048) × (length (rbsp_of u) ≤ room)
+    go (refused n) f e = absurd (value-refused (sym e))
+    go (value x q) f e = by x q (fitting (rbsp_of u) room) f refl e
 
 -- a unit that passes its header
 unit-read : (u w : List ℕ) (h : UnitHeader) {p : ℕ} → admitted u (length w) ≡ value h p
@@ -194,15 +225,31 @@ pub unit-refused : (u w : List ℕ) (n : ℕ) → admitted u (length w) ≡ refu
 unfolding parse_aps work_after
 unit-refused u w n e = (rw e, rw e)
 
--- the RBSP of a unit that passes its header, as unescaping answers it
-pub unwrapped : (u w v : List ℕ) (r : Result ℕ Refusal) (x : UnitHeader) {p : ℕ} → admitted u (length w) ≡ value x p → outcome_written r v ≡ ebsp_to_rbsp (take (length u - 2) (drop 2 u)) w
+-- the RBSP of a unit that has a header and is not too long, as unescaping answers it
+pub unwrapped : (u w v : List ℕ) (r : Result ℕ Refusal) (h : UnitHeader) {p : ℕ} → unit_header u ≡ value h p → length (rbsp_of u) ≤ 2048
+    → outcome_written r v ≡ ebsp_to_rbsp (take (length u - 2) (drop 2 u)) w → v ≡ left w (ebsp_to_rbsp (take (length u - 2) (drop 2 u)) w)
     → Unwrapped r (parse_aps u (length w)) v × (v ≡ work_after u w)
-unwrapped u w v (Ok n) x e f =
-    let (g, h, l, m) = admitted-lengths u (length w) x e in
-    let (a, b) = unit-read u w x e in
-    let k : value (rbsp_of u ++ drop (length (rbsp_of u)) w) (length (rbsp_of u)) ≡ value v n = sym (rbsp-put u w l m) ∙ sym f in
-    let y : rbsp_of u ++ drop (length (rbsp_of u)) w ≡ v = cc in
-    ((rbsp-within u w v n k, a ∙ rbsp-read u w v n l k), sym y ∙ sym b)
-unwrapped u w v (Err why) x e f =
-    let (g, h, l, m) = admitted-lengths u (length w) x e in
-    absurd (value-refused (sym (rbsp-put u w l m) ∙ sym f))
+unwrapped u w v r h e m f k = go (leb (length (rbsp_of u)) (length w)) refl r f
+  where
+    short : length u ≤ 65536
+    short = (headed u h e).short
+
+    put : length (rbsp_of u) ≤ length w → (r : Result ℕ Refusal) → outcome_written r v ≡ ebsp_to_rbsp (take (length u - 2) (drop 2 u)) w → Unwrapped r (parse_aps u (length w)) v × (v ≡ work_after u w)
+    put l (Ok n) f =
+        let (a, b) = unit-read u w h {p = 16} (admitted-by u (length w) h e ∙ rw (fits (rbsp_of u) (length w) m l)) in
+        let k : value (rbsp_of u ++ drop (length (rbsp_of u)) w) (length (rbsp_of u)) ≡ value v n = sym (rbsp-put u w short l) ∙ sym f in
+        let y : rbsp_of u ++ drop (length (rbsp_of u)) w ≡ v = cc in
+        ((rbsp-within u w v n k, a ∙ rbsp-read u w v n m k), sym y ∙ sym b)
+    put l (Err why) f = absurd (value-refused (sym (rbsp-put u w short l) ∙ sym f))
+
+    none : length w < length (rbsp_of u) → (r : Result ℕ Refusal) → outcome_written r v ≡ ebsp_to_rbsp (take (length u - 2) (drop 2 u)) w → Unwrapped r (parse_aps u (length w)) v × (v ≡ work_after u w)
+    none l (Ok n) f = absurd (value-refused (f ∙ rbsp-refused u w short l))
+    none l (Err why) f =
+        let (a, b) = unit-refused u w 5 (admitted-by u (length w) h e ∙ rw (fits-5 (rbsp_of u) (length w) m l)) in
+        let g : refused (number why) ≡ refused 5 = f ∙ rbsp-refused u w short l in
+        let z : number why ≡ 5 = cc in
+        (rw z a, k ∙ ap (left w) (rbsp-refused u w short l) ∙ sym b)
+
+    go : (t : Bool) → leb (length (rbsp_of u)) (length w) ≡ t → (r : Result ℕ Refusal) → outcome_written r v ≡ ebsp_to_rbsp (take (length u - 2) (drop 2 u)) w → Unwrapped r (parse_aps u (length w)) v × (v ≡ work_after u w)
+    go true t r f = put (leb-true _ _ t) r f
+    go false t r f = none (leb-false _ _ t) r f

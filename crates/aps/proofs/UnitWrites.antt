@@ -91,15 +91,15 @@ module _ (out bytes : List ℕ) (head : UnitHeader) where
   unit-header t = wrote out (rw t)
 
   module _ (t : is_aps_header head ≡ true) where
-    -- an RBSP over 65,536 bytes is refused
-    pub unit-long : 65536 < length bytes → (refused 4 ≡ write_nal bytes head out) × (out ≡ left out (write_nal bytes head out))
+    -- an RBSP over 2,048 bytes is refused
+    pub unit-long : 2048 < length bytes → (refused 4 ≡ write_nal bytes head out) × (out ≡ left out (write_nal bytes head out))
     unfolding write_nal
-    unit-long h = wrote out (rw (t, lt-ltb 65536 (length bytes) h))
+    unit-long h = wrote out (rw (t, lt-ltb 2048 (length bytes) h))
 
     -- any other is put as a unit
-    pub unit-due : length bytes ≤ 65536 → write_nal bytes head out ≡ put_bytes out (unit_of head bytes)
+    pub unit-due : length bytes ≤ 2048 → write_nal bytes head out ≡ put_bytes out (unit_of head bytes)
     unfolding write_nal
-    unit-due h = rw (t, le-ltb 65536 (length bytes) h)
+    unit-due h = rw (t, le-ltb 2048 (length bytes) h)
 
   -- a unit is its header and the escaped bytes
   unit-length : length (unit_of head bytes) ≡ 2 + length (escape bytes)
@@ -110,7 +110,7 @@ module _ (out bytes : List ℕ) (head : UnitHeader) where
   pub unit-short : length out < 2 → (refused 5 ≡ put_bytes out (unit_of head bytes)) × (out ≡ left out (put_bytes out (unit_of head bytes)))
   unit-short h = not-copied out (unit_of head bytes) (omega (arith, unit-length))
 
-  module _ (h : 2 ≤ length out) (b : length bytes ≤ 65536) where
+  module _ (h : 2 ≤ length out) (b : length bytes ≤ 2048) where
     -- the output after the header
     abbrev rest : List ℕ
     rest = mid_of 2 (length out - 2) out
@@ -174,16 +174,14 @@ module _ (set : VvcAps) (out : List ℕ) where
 
   -- one whose bytes are l
   module _ (l : List ℕ) (n : ℕ) (e : value l n ≡ bytes_due set) where
-    -- the bytes due are as many as the answer says
-    pub due-length : length l ≡ n
-    due-length = let (x, o, w, m) = taken-due set l n (sym e) in ap length w ∙ sym m
-
     -- the bytes due are put as they are
     pub aps-bytes : write_aps set out ≡ put_bytes out l
     unfolding write_aps
     aps-bytes = ap (λ (o : Outcome (List ℕ)). o then λ bytes n. put_bytes out bytes) (sym e)
 
     -- or as a unit
-    pub nal-bytes : (head : UnitHeader) → is_aps_header head ≡ true → length l ≤ 65536 → write_aps_nal set head out ≡ write_nal l head out
+    pub nal-bytes : (head : UnitHeader) → is_aps_header head ≡ true → write_aps_nal set head out ≡ write_nal l head out
     unfolding write_aps_nal
-    nal-bytes head t h = rw t (ap (λ (o : Outcome (List ℕ)). o then λ bytes n. put_bytes out (unit_of head bytes)) (sym e)) ∙ sym (unit-due out l head t h)
+    nal-bytes head t =
+        let (x, o, w, m, s) = taken-due set l n (sym e) in
+        rw t (ap (λ (o : Outcome (List ℕ)). o then λ bytes n. put_bytes out (unit_of head bytes)) (sym e)) ∙ sym (unit-due out l head t (rw w s))

@@ -17,7 +17,7 @@ use Rattle.bitstream.specs.declared.Refusal.{Refusal}
 use Rattle.bitstream.specs.declared.Refusal.TheVariants.{InvalidData}
 use Rattle.bitstream.proofs.WriteLaws.{puts-append}
 use Rattle.aps.specs.Codec.{Codec, ◌▷◌, via, judged, Inferred, when, each_from, each, provided}
-use Rattle.aps.specs.Writes.{writes, Wrote, unsent}
+use Rattle.aps.specs.Writes.{writes, Wrote, unsent, kept}
 use Rattle.aps.specs.declared.writer.Writer.{Writer}
 
 -- ---- how each piece is written
@@ -99,28 +99,28 @@ module _ {A : Type 0} (k : ℕ → Codec A) where
 module _ {A : Type 0} {c : Codec A} {a : A} {before after : Writer} where
   -- a value that is not taken
   pub wrote-not : c.ok a ≡ false → Wrote c a before after (Err InvalidData)
-  wrote-not o = record { answer = sym (writes-not c a before.buffer before.at o) }
+  wrote-not o = record { answer = sym (writes-not c a (kept before) before.at o) }
 
   -- a value that is taken
-  pub wrote-taken : c.ok a ≡ true → value after.buffer after.at ≡ value (put_bits before.buffer before.at (c.emit a)) (before.at + length (c.emit a)) → Wrote c a before after (Ok tt)
-  wrote-taken o e = record { answer = e ∙ sym (writes-taken c a before.buffer before.at o) }
+  pub wrote-taken : c.ok a ≡ true → value (kept after) after.at ≡ value (put_bits (kept before) before.at (c.emit a)) (before.at + length (c.emit a)) → Wrote c a before after (Ok tt)
+  wrote-taken o e = record { answer = e ∙ sym (writes-taken c a (kept before) before.at o) }
 
   module _ {r : Result (Unit {0}) Refusal} where
     -- the same written by another description
-    pub wrote_as : {B : Type 0} {d : Codec B} {b : B} → writes c a before.buffer before.at ≡ writes d b before.buffer before.at → Wrote c a before after r → Wrote d b before after r
+    pub wrote_as : {B : Type 0} {d : Codec B} {b : B} → writes c a (kept before) before.at ≡ writes d b (kept before) before.at → Wrote c a before after r → Wrote d b before after r
     wrote_as h w = record { answer = w.answer ∙ h }
 
     -- one that is sent
     pub wrote-when : (d : Inferred A) → Wrote c a before after r → Wrote (when true d c) a before after r
-    wrote-when d = wrote_as (sym (writes-when d c a before.buffer before.at))
+    wrote-when d = wrote_as (sym (writes-when d c a (kept before) before.at))
 
     -- one that passes a test
     pub wrote-judged : (test : A → Bool) → test a ≡ true → Wrote c a before after r → Wrote (judged test c) a before after r
-    wrote-judged test t = wrote_as (sym (writes-judged test c a before.buffer before.at ∙ rw t))
+    wrote-judged test t = wrote_as (sym (writes-judged test c a (kept before) before.at ∙ rw t))
 
     -- one whose condition holds
     pub wrote-provided : {b : Bool} → b ≡ true → Wrote c a before after r → Wrote (provided b c) a before after r
-    wrote-provided {b} t = wrote_as (sym (writes-provided b c a before.buffer before.at ∙ rw t))
+    wrote-provided {b} t = wrote_as (sym (writes-provided b c a (kept before) before.at ∙ rw t))
 
     -- one that is sent where a flag is set
     pub wrote-sent : (d : Inferred A) {b : Bool} → b ≡ true → Wrote c a before after r → Wrote (when b d c) a before after r
@@ -131,13 +131,13 @@ pub wrote-unsent : {A : Type 0} (d : Inferred A) (c : Codec A) {a : A} {b : Bool
 wrote-unsent d c {a} {w = w} e f = rw (e, f) (go (d.is a) refl)
   where
     go : (t : Bool) → d.is a ≡ t → Wrote (when false d c) a w w (unsent t)
-    go true o = record { answer = sym (writes-none d c a w.buffer w.at ∙ rw o) }
-    go false o = record { answer = sym (writes-none d c a w.buffer w.at ∙ rw o) }
+    go true o = record { answer = sym (writes-none d c a (kept w) w.at ∙ rw o) }
+    go false o = record { answer = sym (writes-none d c a (kept w) w.at ∙ rw o) }
 
 -- one in another shape
 pub wrote-via : {A B : Type 0} (to : A → B) (from : B → A) (test : B → Bool) {c : Codec A} {b : B} {before after : Writer} {r : Result (Unit {0}) Refusal} → test b ≡ true
     → Wrote c (from b) before after r → Wrote (via to from test c) b before after r
-wrote-via to from test {c} {b} {before} t = wrote_as (sym (writes-via to from test c b before.buffer before.at ∙ rw t))
+wrote-via to from test {c} {b} {before} t = wrote_as (sym (writes-via to from test c b (kept before) before.at ∙ rw t))
 
 -- ---- one piece after another
 
@@ -146,14 +146,14 @@ module _ {A B : Type 0} {c : Codec A} (k : A → Codec B) {a : A} {b : B} {befor
   pub wrote-▷ : {after : Writer} {r : Result (Unit {0}) Refusal} → Wrote c a before mid (Ok tt) → Wrote (k a) b mid after r → Wrote (c ▷ k) (a, b) before after r
   wrote-▷ {after} {r} v w =
       record {
-        answer = w.answer ∙ sym (writes-▷ c k a b before.buffer before.at ∙ ap (λ (o : Outcome (List ℕ)). o then λ out q. writes (k a) b out q) (sym v.answer));
+        answer = w.answer ∙ sym (writes-▷ c k a b (kept before) before.at ∙ ap (λ (o : Outcome (List ℕ)). o then λ out q. writes (k a) b out q) (sym v.answer));
       }
 
   -- where the first is refused so are both
   pub wrote-▷-first : {e : Refusal} → Wrote c a before mid (Err e) → Wrote (c ▷ k) (a, b) before mid (Err e)
   wrote-▷-first v =
       record {
-        answer = sym (writes-▷ c k a b before.buffer before.at ∙ ap (λ (o : Outcome (List ℕ)). o then λ out q. writes (k a) b out q) (sym v.answer));
+        answer = sym (writes-▷ c k a b (kept before) before.at ∙ ap (λ (o : Outcome (List ℕ)). o then λ out q. writes (k a) b out q) (sym v.answer));
       }
 
 -- what the exit of a `?` returns is the refusal that it met
@@ -165,7 +165,7 @@ wrote-exit {r = r} h w = let p = err_from_is_err_and r h in rw (p.1, p.2) w
 module _ {A : Type 0} (k : ℕ → Codec A) (N : ℕ) (xs : List A) (before : Writer) where
   -- the first i of them are written: what is left to write makes it whole
   pub record Writing (i : ℕ) (now : Writer) : Type 0 where
-    pub rest : writes (each_from i (N - i) k) (drop i xs) now.buffer now.at ≡ writes (each N k) xs before.buffer before.at
+    pub rest : writes (each_from i (N - i) k) (drop i xs) (kept now) now.at ≡ writes (each N k) xs (kept before) before.at
 
   -- none is written at the start
   pub writing_start : Writing 0 before
@@ -173,10 +173,10 @@ module _ {A : Type 0} (k : ℕ → Codec A) (N : ℕ) (xs : List A) (before : Wr
 
   -- what is left is one entry and then the others
   rest-step : (i : ℕ) (now : Writer) (x : A) → i < N → drop i xs ≡ x ∷ drop (suc i) xs → Writing i now
-      → (writes (k i) x now.buffer now.at then λ out q. writes (each_from (suc i) (N - suc i) k) (drop (suc i) xs) out q) ≡ writes (each N k) xs before.buffer before.at
+      → (writes (k i) x (kept now) now.at then λ out q. writes (each_from (suc i) (N - suc i) k) (drop (suc i) xs) out q) ≡ writes (each N k) xs (kept before) before.at
   rest-step i now x h e w =
       let s : N - i ≡ suc (N - suc i) = omega arith in
-      sym (writes-cons k i (N - suc i) x (drop (suc i) xs) now.buffer now.at) ∙ (rw (s, e) at w.rest)
+      sym (writes-cons k i (N - suc i) x (drop (suc i) xs) (kept now) now.at) ∙ (rw (s, e) at w.rest)
 
   -- one entry more is written
   pub writing_more : {i : ℕ} {now next : Writer} {x : A} → i < N → drop i xs ≡ x ∷ drop (suc i) xs → Writing i now → Wrote (k i) x now next (Ok tt) → Writing (i + 1) next
@@ -195,4 +195,4 @@ module _ {A : Type 0} (k : ℕ → Codec A) (N : ℕ) (xs : List A) (before : Wr
   writing-done {i} {now} h l w =
       let s : N - N ≡ 0 = omega arith in
       let none : drop N xs ≡ [] = rw (← l) (drop-length xs) in
-      record { answer = sym (writes-nil k N now.buffer now.at) ∙ (rw (h, s, none) at w.rest) }
+      record { answer = sym (writes-nil k N (kept now) now.at) ∙ (rw (h, s, none) at w.rest) }

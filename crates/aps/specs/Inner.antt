@@ -19,7 +19,6 @@ use Rattle.aps.specs.declared.aps.ApsHead.{ApsHead}
 use Rattle.aps.specs.declared.aps.Reading.{Reading}
 use Rattle.aps.specs.declared.opened.Opened.{Opened}
 use Rattle.aps.specs.declared.aps.VvcAps.{VvcAps}
-use Rattle.aps.specs.declared.unit_header.UnitHeader.{UnitHeader}
 
 -- ---- reading
 
@@ -121,8 +120,3 @@ Opens s (Err why) = parse_aps_rbsp s ≡ refused (number why)
 abbrev pub Unwrapped : Result ℕ Refusal → Outcome VvcAps → List ℕ → Type 0
 Unwrapped (Ok n) o work = (n ≤ length work) × (o ≡ parse_aps_rbsp (take n work))
 Unwrapped (Err e) o work = o ≡ refused (number e)
-
--- whether a unit gets as far as its RBSP
-abbrev pub Admits : Result (Unit {0}) Refusal → Outcome UnitHeader → Type 0
-Admits (Ok x) o = (h : UnitHeader) × (o ≡ value h 16)
-Admits (Err e) o = o ≡ refused (number e)

@@ -7,8 +7,8 @@ largest_id zero = 7
 largest_id (suc zero) = 3
 largest_id (suc (suc k)) = 7
 
--- the most bytes of an RBSP
+-- the most bytes of an RBSP that is read or written; that of scaling lists may take 2,931
 abbrev pub most_bytes : ℕ → ℕ
 most_bytes zero = 832
 most_bytes (suc zero) = 37
-most_bytes (suc (suc k)) = 2931
+most_bytes (suc (suc k)) = 2048

@@ -1,7 +1,7 @@
 -- What the payloads of the three kinds prove of the sets that they make.
 use mathlib.Core.Path.{sym, ap, ◌∙◌}
 use Rattle.std.specs.Prelude.{◌≡◌, refl, Bool, true, cond, ◌&&◌, List, ◌++◌, ℕ, length}
-use Rattle.bitstream.specs.Outcome.{Outcome, value, refused, ◌then◌}
+use Rattle.bitstream.specs.Outcome.{Outcome, refused, ◌then◌}
 use Rattle.bitstream.specs.Bits.{pack}
 use Rattle.bitstream.specs.Fields.{trailing_bits}
 use Rattle.bitstream.specs.Escapes.{put_bytes}
@@ -10,7 +10,7 @@ use Rattle.aps.specs.ApsSyntax.{ApsData, aps_syntax, aps, from_aps, of_alf, of_l
 use Rattle.aps.specs.Rbsp.{rbsp_bits, rbsp_bytes}
 use Rattle.aps.specs.ScalingSyntax.{look}
 use Rattle.aps.specs.Unit.{is_aps_header}
-use Rattle.aps.specs.Writing.{rbsp_due, bytes_due, alf_set, lmcs_set, scaling_set, unit_of, write_aps, write_aps_nal}
+use Rattle.aps.specs.Writing.{not_long, rbsp_due, bytes_due, alf_set, lmcs_set, scaling_set, unit_of, write_aps, write_aps_nal}
 use Rattle.aps.specs.Inner.{assembled, Bare}
 use Rattle.aps.specs.declared.alf.VvcAlfData.{VvcAlfData}
 use Rattle.aps.specs.declared.lmcs.VvcLmcsData.{VvcLmcsData}
@@ -84,7 +84,7 @@ module _ (a : VvcAps) where
 abbrev due : ApsData → Outcome (List ℕ)
 due x =
     cond x.1.1.1.1 (refused 3)
-    (cond (aps_syntax.ok x && true) (value (pack (aps_syntax.emit x ++ trailing_bits (length (aps_syntax.emit x)))) (length (pack (aps_syntax.emit x ++ trailing_bits (length (aps_syntax.emit x)))))) (refused 2))
+    (cond (aps_syntax.ok x && true) (not_long (pack (aps_syntax.emit x ++ trailing_bits (length (aps_syntax.emit x))))) (refused 2))
 
 due-sent : (a : VvcAps) → bytes_due a ≡ due (from_aps a)
 unfolding bytes_due rbsp_due rbsp_bytes rbsp_bits aps via from_aps

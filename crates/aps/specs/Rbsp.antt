@@ -13,9 +13,9 @@ closed s a q = cond a.aps_extension_flag (value a q) (read_trailing s q then λ 
 unfoldable pub read_rbsp : List ℕ → Outcome VvcAps
 read_rbsp s = aps.read s 0 then λ a q. closed s a q
 
--- `parse_aps_rbsp`. 4: the input is over 65,536 bytes
+-- `parse_aps_rbsp`. 4: the RBSP is over 2,048 bytes
 unfoldable pub parse_aps_rbsp : List ℕ → Outcome VvcAps
-parse_aps_rbsp s = cond (ltb 65536 (length s)) (refused 4) (read_rbsp s)
+parse_aps_rbsp s = cond (ltb 2048 (length s)) (refused 4) (read_rbsp s)
 
 -- the bits of a set with extension flag 0, stop bit and padding included
 unfoldable pub rbsp_bits : VvcAps → List ℕ

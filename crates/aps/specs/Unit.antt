@@ -1,5 +1,5 @@
 -- One unit: its header (H.266 7.3.1.2), and the set that it holds.
-use Rattle.std.specs.Prelude.{Bool, cond, ◌&&◌, ◌||◌, List, ◌++◌, ℕ, ◌-◌, ◌/◌, ◌%◌, leb, ltb, eqb, length, get_or, drop, Result, Ok, Err}
+use Rattle.std.specs.Prelude.{Bool, cond, ◌&&◌, ◌||◌, List, ◌++◌, ℕ, ◌/◌, ◌%◌, leb, ltb, eqb, length, get_or, drop, Result, Ok, Err}
 use Rattle.bitstream.specs.Outcome.{Outcome, value, refused, number, ◌then◌}
 use Rattle.bitstream.specs.declared.Refusal.{Refusal}
 use Rattle.bitstream.specs.Escapes.{unescape}
@@ -63,15 +63,19 @@ outcome_unit_header (Err e) = refused (number e)
 abbrev pub rbsp_of : List ℕ → List ℕ
 rbsp_of u = unescape (drop 2 u)
 
--- 4, 1 and 2 of the header; 5: the work buffer is shorter than the unit less 2
+-- 4: an RBSP of over 2,048 bytes; 5: the work buffer is shorter than it
+unfoldable pub fitting : List ℕ → ℕ → Outcome (Unit {0})
+fitting r room = cond (ltb 2048 (length r)) (refused 4) (cond (ltb room (length r)) (refused 5) (value tt 16))
+
+-- 4, 1 and 2 of the header; then 4 and 5 of the RBSP
 unfoldable pub admitted : List ℕ → ℕ → Outcome UnitHeader
-admitted u room = unit_header u then λ h p. cond (ltb room (length u - 2)) (refused 5) (value h 16)
+admitted u room = unit_header u then λ h p. fitting (rbsp_of u) room then λ x q. value h 16
 
 -- `parse_aps`: then the RBSP
 unfoldable pub parse_aps : List ℕ → ℕ → Outcome VvcAps
 parse_aps u room = admitted u room then λ h p. read_rbsp (rbsp_of u)
 
--- what is left in the work buffer: the RBSP and then what stood there; all as it was where the unit got no further than its header
+-- what is left in the work buffer: the RBSP and then what stood there; all as it was where the unit got no further
 abbrev pub work_of : Outcome UnitHeader → List ℕ → List ℕ → List ℕ
 work_of (value h p) u work = rbsp_of u ++ drop (length (rbsp_of u)) work
 work_of (refused n) u work = work

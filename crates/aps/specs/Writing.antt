@@ -12,13 +12,17 @@ use Rattle.aps.specs.declared.scaling_list.VvcScalingListData.{VvcScalingListDat
 use Rattle.aps.specs.declared.aps.ApsKind.{ApsKind}
 use Rattle.aps.specs.declared.aps.VvcAps.{VvcAps}
 
--- the bytes of a set. 2: the description does not take it
+-- bytes that are not over 2,048; 4: they are
+unfoldable pub not_long : List ℕ → Outcome (List ℕ)
+not_long bytes = cond (ltb 2048 (length bytes)) (refused 4) (value bytes (length bytes))
+
+-- the bytes of a set. 2: the description does not take it; 4
 unfoldable pub rbsp_due : VvcAps → Outcome (List ℕ)
-rbsp_due a = cond (aps.ok a) (value (rbsp_bytes a) (length (rbsp_bytes a))) (refused 2)
+rbsp_due a = cond (aps.ok a) (not_long (rbsp_bytes a)) (refused 2)
 
 -- which are due at the start of the output. 3: extension flag 1
 unfoldable pub bytes_due : VvcAps → Outcome (List ℕ)
-bytes_due a = cond a.aps_extension_flag (refused 3) (cond (aps.ok a) (value (rbsp_bytes a) (length (rbsp_bytes a))) (refused 2))
+bytes_due a = cond a.aps_extension_flag (refused 3) (rbsp_due a)
 
 -- `write_aps`: 5, the output is shorter than the bytes due, comes last
 unfoldable pub write_aps : VvcAps → List ℕ → Outcome (List ℕ)
@@ -69,9 +73,9 @@ header_bytes h = h.nuh_layer_id ∷ (h.nal_unit_type * 8 + h.nuh_temporal_id_plu
 unfoldable pub unit_of : UnitHeader → List ℕ → List ℕ
 unit_of h bytes = header_bytes h ++ escape bytes
 
--- `write_nal`: an RBSP as a unit. 2: the header is none of an APS unit; 4: the RBSP is over 65,536 bytes; 5 comes last
+-- `write_nal`: an RBSP as a unit. 2: the header is none of an APS unit; 4: the RBSP is over 2,048 bytes; 5 comes last
 unfoldable pub write_nal : List ℕ → UnitHeader → List ℕ → Outcome (List ℕ)
-write_nal rbsp h out = cond (is_aps_header h) (cond (ltb 65536 (length rbsp)) (refused 4) (put_bytes out (unit_of h rbsp))) (refused 2)
+write_nal rbsp h out = cond (is_aps_header h) (cond (ltb 2048 (length rbsp)) (refused 4) (put_bytes out (unit_of h rbsp))) (refused 2)
 
 -- `write_aps_nal`: the header is judged first
 unfoldable pub write_aps_nal : VvcAps → UnitHeader → List ℕ → Outcome (List ℕ)

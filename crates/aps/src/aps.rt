@@ -7,6 +7,7 @@ ghost use Rattle.aps.specs.Rbsp.{parse_aps_rbsp};
 ghost use Rattle.aps.specs.ApsSyntax.{empty_set, number_of};
 ghost use Rattle.aps.specs.Reading.{outcome_reading, head_of, kind_named};
 
+use crate::LONGEST_RBSP;
 use crate::alf::VvcAlfData;
 use crate::lmcs::VvcLmcsData;
 use crate::opened::Opened;
@@ -54,7 +55,7 @@ impl Scaling {
 
     pub const MAX_ID: u8 = 7;
 
-    pub const MAX_BYTES: usize = 2931;
+    pub const MAX_BYTES: usize = LONGEST_RBSP;
 }
 
 impl ApsKind {
@@ -163,7 +164,10 @@ impl Default for VvcAps {
 pub(crate) fn open_rbsp(bytes: &[u8]) -> Result<Opened<'_>, Refusal>
     ensures { Opens bytes.now result }
 {
-    let input = Input::new(bytes)?;
+    if LONGEST_RBSP < bytes.len() {
+        return Err(Refusal::InputTooLong);
+    }
+    let input = Input { bytes };
     let mut reader = Reader::new(input);
     let number = reader.u(3, 8)?;
     let id = reader.u(5, 8)?;

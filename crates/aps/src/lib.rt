@@ -26,3 +26,6 @@ pub mod unit;
 pub mod unit_header;
 pub mod write;
 mod writer;
+
+// The longest RBSP that is read or written.
+pub const LONGEST_RBSP: usize = 2048;

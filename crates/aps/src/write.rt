@@ -1,5 +1,5 @@
 // A set written as an RBSP or as a unit. After src/h266/aps.rs.
-ghost use Rattle.std.specs.Prelude.{◌≡◌, Bool, false, ℕ, ◌+◌, ◌≤◌, replicate};
+ghost use Rattle.std.specs.Prelude.{◌≡◌, Bool, false, ℕ, ◌+◌, ◌≤◌, replicate, OnOk};
 ghost use Rattle.bitstream.specs.Outcome.{left, outcome_written};
 ghost use Rattle.bitstream.specs.Escapes.{put_bytes};
 ghost use Rattle.aps.specs.declared.aps.VvcAps.{VvcAps};
@@ -9,6 +9,7 @@ ghost use Rattle.aps.specs.ScalingSyntax.{look};
 ghost use Rattle.aps.specs.Writes.{Wrote, closed};
 ghost use Rattle.aps.specs.Writing.{bytes_due, write_aps, write_nal, write_aps_nal};
 
+use crate::LONGEST_RBSP;
 use crate::alf::VvcAlfData;
 use crate::aps::{ApsKind, VvcAps};
 use crate::lmcs::VvcLmcsData;
@@ -16,8 +17,8 @@ use crate::payload::Coded;
 use crate::scaling_list::VvcScalingListData;
 use crate::unit_header::UnitHeader;
 use crate::writer::Writer;
+use bitstream::Refusal;
 use bitstream::nal::rbsp_to_ebsp;
-use bitstream::{Input, Refusal};
 
 // A set up to its extension flag, which is 0: what stands before the payload, the payload and the flag.
 fn put_set<P: Coded>(writer: &mut Writer, id: u8, chroma: bool, d: &P) -> Result<(), Refusal>
@@ -35,7 +36,7 @@ fn put_set<P: Coded>(writer: &mut Writer, id: u8, chroma: bool, d: &P) -> Result
     writer.flag(false)
 }
 
-// A set with what closes its RBSP. 3: extension flag 1. A new writer is lent: given by value, its 4 KB were copied, and a small LMCS set took 423 ns where it takes 119.
+// A set with what closes its RBSP. 3: extension flag 1; 2; 4: over 2,048 bytes. A new writer is lent: given by value, its 2 KB would be copied.
 pub(crate) fn put_rbsp<P: Coded>(
     writer: &mut Writer,
     id: u8,
@@ -43,20 +44,26 @@ pub(crate) fn put_rbsp<P: Coded>(
     extension: bool,
     d: &P,
 ) -> Result<(), Refusal>
-    requires { (writer.old.at ≡ 0) × (writer.old.buffer ≡ replicate 4096 0) }
-    ensures { (a : VvcAps) → from_aps a ≡ (number_of P.KIND, (id, (chroma, (P.sent chroma d.now, extension)))) → closed result writer.new ≡ bytes_due a }
+    requires { (writer.old.at ≡ 0) × (writer.old.buffer ≡ replicate 2064 0) }
+    ensures bytes { (a : VvcAps) → from_aps a ≡ (number_of P.KIND, (id, (chroma, (P.sent chroma d.now, extension)))) → closed result writer.new ≡ bytes_due a }
+    ensures short { OnOk result (writer.new.at ≤ 16384) }
 {
     if extension {
         return Err(Refusal::Unsupported);
     }
     put_set(writer, id, chroma, d)?;
-    writer.trailing_bits()
+    writer.trailing_bits()?;
+    if 8 * LONGEST_RBSP < writer.at {
+        return Err(Refusal::InputTooLong);
+    }
+    Ok(())
 }
 
 // The RBSP of a set, into a new writer too.
 fn write_rbsp(writer: &mut Writer, set: &VvcAps) -> Result<(), Refusal>
-    requires { (writer.old.at ≡ 0) × (writer.old.buffer ≡ replicate 4096 0) }
-    ensures { closed result writer.new ≡ bytes_due set.now }
+    requires { (writer.old.at ≡ 0) × (writer.old.buffer ≡ replicate 2064 0) }
+    ensures bytes { closed result writer.new ≡ bytes_due set.now }
+    ensures short { OnOk result (writer.new.at ≤ 16384) }
 {
     let id = set.aps_adaptation_parameter_set_id;
     let chroma = set.aps_chroma_present_flag;
@@ -88,11 +95,13 @@ pub fn write_nal(rbsp: &[u8], header: UnitHeader, out: &mut [u8]) -> Result<usiz
     if !header.is_aps() {
         return Err(Refusal::InvalidData);
     }
-    let input = Input::new(rbsp)?;
+    if LONGEST_RBSP < rbsp.len() {
+        return Err(Refusal::InputTooLong);
+    }
     if out.len() < 2 {
         return Err(Refusal::OutputTooShort);
     }
-    let n = rbsp_to_ebsp(input.bytes, &mut out[2..])?;
+    let n = rbsp_to_ebsp(rbsp, &mut out[2..])?;
     out[0] = header.nuh_layer_id;
     out[1] = header.nal_unit_type * 8 + header.nuh_temporal_id_plus1;
     Ok(n + 2)

@@ -1,33 +1,46 @@
-// The fields of a set, written into a buffer that has room for them: as the description writes them, and 2 where it does not take a value.
-ghost use Rattle.std.specs.Prelude.{◌≡◌, ◌+◌, ◌*◌, ◌/◌, ◌≤◌, ◌<◌, pos, negsuc, replicate, take, OnOk};
-ghost use Rattle.bitstream.specs.Fields.{ue_zeros};
-ghost use Rattle.bitstream.specs.Writing.{write_trailing_at};
+// The fields of a set, written into a buffer that refuses none of them: as the description writes them, and 2 where it does not take a value.
+ghost use Rattle.std.specs.Prelude.{◌≡◌, ◌+◌, ◌*◌, ◌/◌, ◌≤◌, ◌<◌, pos, negsuc, length, replicate, take, OnOk};
+ghost use Rattle.bitstream.specs.Outcome.{value};
+ghost use Rattle.bitstream.specs.Bits.{put_bits};
+ghost use Rattle.bitstream.specs.Fields.{ue_zeros, trailing_bits};
 ghost use Rattle.aps.specs.Codec.{u};
 ghost use Rattle.aps.specs.Elements.{flag, ue_to, se_in, signed};
 ghost use Rattle.aps.specs.AlfSyntax.{coefficient};
 
+use crate::LONGEST_RBSP;
 use crate::inferred::unsent;
 use bitstream::Refusal;
 use bitstream::bit_writer::{write_bits, write_rbsp_trailing_bits, write_se, write_ue};
 
-// The bits of a set on their way: the first `at` bits of the buffer are written. Each part says what room it asks and what it takes, since these differ. A fixed buffer: no heap is used.
+// The bits of a set on their way: `at` of them are written, of which those in the first 2,048 bytes of the buffer are kept. Each part says what room it asks and what it takes, since these differ. A fixed buffer: no heap is used.
 #[derive(Drop)]
 pub(crate) struct Writer {
-    pub(crate) buffer: [u8; 4096],
+    pub(crate) buffer: [u8; 2064],
     pub(crate) at: usize,
     ghost within: { at ≤ 32768 },
 }
 
 impl Writer {
-    ghost use Rattle.aps.specs.Writes.{Wrote, written};
+    ghost use Rattle.aps.specs.Writes.{Wrote, written, kept, place_of};
 
     // Nothing is written.
     pub(crate) fn new() -> Self
-        ensures { (result.buffer ≡ replicate 4096 0) × (result.at ≡ 0) }
+        ensures { (result.buffer ≡ replicate 2064 0) × (result.at ≡ 0) }
     {
         Writer {
-            buffer: [0; 4096],
+            buffer: [0; 2064],
             at: 0,
+        }
+    }
+
+    // Where the next field is put: behind the bytes that are kept it goes into the 16 after them, at the same bit of a byte, so that no write is refused.
+    fn place(&self) -> usize
+        ensures { result ≡ place_of self.now.at }
+    {
+        if self.at < 8 * LONGEST_RBSP {
+            self.at
+        } else {
+            8 * LONGEST_RBSP + self.at % 8
         }
     }
 
@@ -40,8 +53,9 @@ impl Writer {
         if 1u64 << n as u64 <= v as u64 {
             return Err(Refusal::InvalidData);
         }
-        let end = write_bits(&mut self.buffer, self.at, v, n)?;
-        self.at = end;
+        let place = self.place();
+        let end = write_bits(&mut self.buffer, place, v, n)?;
+        self.at += end - place;
         Ok(())
     }
 
@@ -64,8 +78,9 @@ impl Writer {
         if most < v {
             return Err(Refusal::InvalidData);
         }
-        let end = write_ue(&mut self.buffer, self.at, v)?;
-        self.at = end;
+        let place = self.place();
+        let end = write_ue(&mut self.buffer, place, v)?;
+        self.at += end - place;
         Ok(())
     }
 
@@ -78,8 +93,9 @@ impl Writer {
         if v < -128 || 127 < v {
             return Err(Refusal::InvalidData);
         }
-        let end = write_se(&mut self.buffer, self.at, v)?;
-        self.at = end;
+        let place = self.place();
+        let end = write_se(&mut self.buffer, place, v)?;
+        self.at += end - place;
         Ok(())
     }
 
@@ -117,17 +133,19 @@ impl Writer {
     // The stop bit and zeros to the end of the byte.
     pub(crate) fn trailing_bits(&mut self) -> Result<(), Refusal>
         requires { self.old.at ≤ 32700 }
-        ensures wrote { written result self.new ≡ write_trailing_at self.old.buffer self.old.at }
+        ensures wrote { written result self.new ≡ value (put_bits (kept self.old) self.old.at (trailing_bits self.old.at)) (self.old.at + length (trailing_bits self.old.at)) }
         ensures within { self.new.at ≤ self.old.at + 8 }
     {
-        let end = write_rbsp_trailing_bits(&mut self.buffer, self.at)?;
-        self.at = end;
+        let place = self.place();
+        let end = write_rbsp_trailing_bits(&mut self.buffer, place)?;
+        self.at += end - place;
         Ok(())
     }
 
     // The whole bytes that are written.
     pub(crate) fn bytes(&self) -> &[u8]
-        ensures { result.now ≡ take (self.now.at / 8) self.now.buffer }
+        requires { self.now.at ≤ 16384 }
+        ensures { result.now ≡ take (self.now.at / 8) (kept self.now) }
     {
         &self.buffer[..self.at / 8]
     }

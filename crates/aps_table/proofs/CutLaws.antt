@@ -18,12 +18,14 @@ use Rattle.aps.proofs.UnitSteps.{headed}
 use Rattle.aps_table.specs.Split.{framed}
 use Rattle.aps_table.specs.Places.{HeldAps, names, Entries, kind_in, id_in, filled_among, filled}
 use Rattle.aps_table.specs.Taking.{Verdict, accept, pass, damage, refuse, verdict, tally, no_units}
-use Rattle.aps_table.specs.Calls.{Call, stream, alone, counted, units_taken, answer_to}
+use Rattle.aps_table.specs.Calls.{read_of, longest, Call, stream, alone, counted, units_taken, answer_to}
+use Rattle.aps_table.specs.Demand3.{needed, work_for}
 use Rattle.aps_table.specs.List.{is_extended, any_extended, joined, listed, list_due}
 use Rattle.aps_table.specs.Book.{no_entries, replace, note, note_units, note_taken, enter, enters, book}
 use Rattle.aps_table.specs.Inner.{most_listed}
 use Rattle.aps_table.specs.declared.table.Counts.{Counts}
 use Rattle.aps_table.proofs.SplitLaws.{AllFit, split-framed}
+use Rattle.aps_table.proofs.RoomLaws.{larger-room, longest-most}
 use Rattle.aps_table.proofs.UnitLaws.{Written, unit-written}
 use Rattle.aps_table.proofs.VerdictLaws.{accepted-read}
 use Rattle.aps_table.proofs.BookLaws.{In, in-names, Agree}
@@ -34,6 +36,7 @@ pub record Came (k i : ℕ) (x : HeldAps) : Type 0 where
   pub rbsp : List ℕ
   pub end : ℕ
   pub read : read_rbsp rbsp ≡ value x.set end
+  pub short : length rbsp ≤ 2048
   pub header-is : is_aps_header x.header ≡ true
   pub kind-is : kind_in x.set ≡ k
   pub id-is : id_in x.set ≡ i
@@ -54,11 +57,12 @@ held-note u room b h (accept x q) j = λ k i a e. go k i a (eqb k (kind_in x.set
     go : (k i : ℕ) (a : HeldAps) (t : Bool) → (eqb k (kind_in x.set) && eqb i (id_in x.set)) ≡ t → cond t (some x) (b k i) ≡ some a → Came k i a
     go k i a true p e =
         let d : x ≡ a = cc in
-        let (g, r) = accepted-read u room x q j in
+        let (g, r, m) = accepted-read u room x q j in
         record {
           rbsp = rbsp_of u;
           end = q;
           read = r ∙ ap (λ (c : HeldAps). value c.set q) d;
+          short = m;
           header-is = ap (λ (c : HeldAps). is_aps_header c.header) (sym d) ∙ (headed u x.header g).aps;
           kind-is = ap (λ (c : HeldAps). kind_in c.set) (sym d) ∙ sym (eqb-true k (kind_in x.set) (and_left _ _ p));
           id-is = ap (λ (c : HeldAps). id_in c.set) (sym d) ∙ sym (eqb-true i (id_in x.set) (and_right (eqb k (kind_in x.set)) _ p));
@@ -169,14 +173,14 @@ record Listed (ns : List (ℕ × ℕ)) (b : Entries) : Type 0 where
   listed-is : listed ns b ≡ value (framed us) (length (framed us))
   fit : AllFit us
   small : length (framed us) ≤ total ns
-  read : (room : ℕ) → length (framed us) ≤ room → (x : Entries) → note_units room us x ≡ over ns b x
-  counts : (room : ℕ) → length (framed us) ≤ room → (c : Counts) → tally room us c ≡ more (filled_among ns b) c
+  read : (room : ℕ) → longest us ≤ room → (x : Entries) → note_units room us x ≡ over ns b x
+  counts : (room : ℕ) → longest us ≤ room → (c : Counts) → tally room us c ≡ more (filled_among ns b) c
 
 joined-value : (l k : List ℕ) → joined (value l (length l)) (value k (length k)) ≡ value (l ++ k) (length (l ++ k))
 joined-value l k = rw length-append
 
 list_of : (ns : List (ℕ × ℕ)) (b : Entries) → Held b → any_extended ns b ≡ false → Listed ns b
-unfolding listed any_extended framed AllFit total note_units over tally filled_among
+unfolding listed any_extended framed AllFit total longest note_units over tally filled_among
 list_of [] b h f = record { us = []; listed-is = refl; fit = tt; small = omega arith; read = λ room l x. refl; counts = λ room l c. more-none c }
 list_of (n ∷ ns) b h f =
     go (b n.0 n.1) refl (or_parts (is_extended (b n.0 n.1)) (any_extended ns b) f).0
@@ -193,7 +197,7 @@ list_of (n ∷ ns) b h f =
     }
     go (some a) q g R =
         let H : Came n.0 n.1 a = h n.0 n.1 a q in
-        let W : Written a = unit-written H.rbsp a H.end H.read H.header-is (rw q at g) in
+        let W : Written a = unit-written H.rbsp a H.end H.read H.short H.header-is (rw q at g) in
         let s : 4 + length W.unit ≤ most_listed n.0 = rw H.kind-is at W.small in
         record {
           us = W.unit ∷ R.us;
@@ -201,16 +205,18 @@ list_of (n ∷ ns) b h f =
           fit = (W.fit, R.fit);
           small = omega (arith, length-append W.unit (framed R.us), R.small, s);
           read = λ room l x.
-              rw (W.back room (omega (arith, length-append W.unit (framed R.us))), q, H.kind-is, H.id-is)
-              (R.read room (omega (arith, length-append W.unit (framed R.us))) (replace n.0 n.1 (some a) x));
+              let (v, r) = larger-room (read_of (unit_header W.unit) (rbsp_of W.unit)) (longest R.us) room l in
+              rw (W.back room v, q, H.kind-is, H.id-is)
+              (R.read room r (replace n.0 n.1 (some a) x));
           counts = λ room l c.
-              rw (W.back room (omega (arith, length-append W.unit (framed R.us))), q)
-              (R.counts room (omega (arith, length-append W.unit (framed R.us))) (more 1 c) ∙ more-one (filled_among ns b) c);
+              let (v, r) = larger-room (read_of (unit_header W.unit) (rbsp_of W.unit)) (longest R.us) room l in
+              rw (W.back room v, q)
+              (R.counts room r (more 1 c) ∙ more-one (filled_among ns b) c);
         }
 
 -- units in the byte stream form, not too long: the work buffer decides
 taken-framed : (us : List (List ℕ)) (room : ℕ) → AllFit us → length (framed us) ≤ 65536
-    → units_taken (framed us) room ≡ cond (ltb room (length (framed us))) (refused 5) (value us (length (framed us)))
+    → units_taken (framed us) room ≡ cond (ltb room (longest us)) (refused 5) (value us (length (framed us)))
 unfolding units_taken
 taken-framed us room f h = rw (le-ltb 65536 (length (framed us)) h, split-framed us f)
 
@@ -218,25 +224,28 @@ taken-framed us room f h = rw (le-ltb 65536 (length (framed us)) h, split-framed
 pub record ReadBack (b : Entries) (l : List ℕ) : Type 0 where
   pub due : list_due b ≡ value l (length l)
   pub short : length l ≤ 65536
-  pub no-work : (room : ℕ) → room < length l → units_taken l room ≡ refused 5
-  pub accepted : (room : ℕ) → length l ≤ room → answer_to (stream l room) ≡ counted (record { accepted = filled b; refused = 0; passed = 0 })
-  pub read : (room : ℕ) → length l ≤ room → (x : Entries) → Agree x no_entries → Agree (enter (stream l room) x) b
+  pub suffices : work_for l ≤ 2048
+  pub no-work : (room : ℕ) → room < work_for l → units_taken l room ≡ refused 5
+  pub accepted : (room : ℕ) → work_for l ≤ room → answer_to (stream l room) ≡ counted (record { accepted = filled b; refused = 0; passed = 0 })
+  pub read : (room : ℕ) → work_for l ≤ room → (x : Entries) → Agree x no_entries → Agree (enter (stream l room) x) b
 
 pub read_back_lem : (b : Entries) → Held b → any_extended names b ≡ false → (l : List ℕ) × ReadBack b l
 unfolding list_due
 read_back_lem b h f =
     let R : Listed names b = list_of names b h f in
-    let s : length (framed R.us) ≤ 65536 = omega (arith, R.small, total-names) in (
+    let s : length (framed R.us) ≤ 65536 = omega (arith, R.small, total-names) in
+    let w : work_for (framed R.us) ≡ longest R.us = ap needed (split-framed R.us R.fit) in (
       framed R.us,
       record {
         due = rw (f, R.listed-is);
         short = s;
-        no-work = λ room l. taken-framed R.us room R.fit s ∙ rw (lt-ltb room (length (framed R.us)) l);
+        suffices = rw w (longest-most R.us);
+        no-work = λ room l. taken-framed R.us room R.fit s ∙ rw (lt-ltb room (longest R.us) (rw w at l));
         accepted = λ room l.
-            rw (taken-framed R.us room R.fit s, le-ltb room (length (framed R.us)) l)
-            (ap counted (R.counts room l no_units ∙ ap (λ (m : ℕ). record { accepted = m; refused = 0; passed = 0 }) (zero-add (filled b))));
+            rw (taken-framed R.us room R.fit s, le-ltb room (longest R.us) (rw w at l))
+            (ap counted (R.counts room (rw w at l) no_units ∙ ap (λ (m : ℕ). record { accepted = m; refused = 0; passed = 0 }) (zero-add (filled b))));
         read = λ room l x e k i n.
-            rw (taken-framed R.us room R.fit s, le-ltb room (length (framed R.us)) l, R.read room l x)
+            rw (taken-framed R.us room R.fit s, le-ltb room (longest R.us) (rw w at l), R.read room (rw w at l) x)
             (over-same names b x k i (inr (e k i n, in-names k i n)));
       },
     )

@@ -19,7 +19,7 @@ use Rattle.aps_table.specs.Taking.{Verdict, accept, pass, damage, refuse, verdic
 use Rattle.aps_table.specs.Calls.{Call, stream, alone, Answer, counted, counting, units_taken, after_units, table_after, answer_to}
 use Rattle.aps_table.specs.List.{any_extended, list_due, write_list}
 use Rattle.aps_table.specs.Book.{no_entries, note, note_units, note_taken, enter, enters, book, last_named}
-use Rattle.aps_table.specs.Demand3.{runs, says, after, Alike, read_back, Cut, Demand3}
+use Rattle.aps_table.specs.Demand3.{runs, says, after, work_for, Alike, read_back, Cut, Demand3}
 use Rattle.aps_table.proofs.StoreLaws.{stored, emptied, new-length, new_none}
 use Rattle.aps_table.proofs.VerdictLaws.{accepted-read, damaged-names}
 use Rattle.aps_table.proofs.BookLaws.{in-names, all-names, book-last, Agree, agree-units, agree-enters, list-agree, filled-agree, none-extended, one-extended}
@@ -28,7 +28,7 @@ use Rattle.aps_table.proofs.CutLaws.{held-book, ReadBack, read_back_lem}
 -- ---- the places follow the book
 
 put-note : (u : List ℕ) (room : ℕ) (t : List ℕ) → length t ≡ table_bytes → (v : Verdict) → verdict u room ≡ v → Agree (held (put v (rbsp_of u) t)) (note v (held t))
-put-note u room t h (accept x q) e = let (g, r) = accepted-read u room x q e in stored (rbsp_of u) x q r (headed u x.header g).aps t h
+put-note u room t h (accept x q) e = let (g, r, m) = accepted-read u room x q e in stored (rbsp_of u) x q r m (headed u x.header g).aps t h
 put-note u room t h pass e = λ k i n. refl
 put-note u room t h (damage k i n) e = emptied k i (damaged-names u room e) t h
 put-note u room t h (refuse m) e = λ k i n. refl
@@ -138,10 +138,10 @@ module _ (cs : List Call) (l : List ℕ) (R : ReadBack (book cs) l) where
   written out = rw (list-after cs, R.due)
 
   -- reading the list gives the book's entries
-  back-agree : (n : ℕ) → length l ≤ n → Agree (held (read_back l n)) (book cs)
+  back-agree : (n : ℕ) → work_for l ≤ n → Agree (held (read_back l n)) (book cs)
   back-agree n h k i m = call-agree (stream l n) new_table new-length k i m ∙ R.read n h (held new_table) new-agree k i m
 
-  both-agree : (n : ℕ) → length l ≤ n → Agree (held (after cs)) (held (read_back l n))
+  both-agree : (n : ℕ) → work_for l ≤ n → Agree (held (after cs)) (held (read_back l n))
   both-agree n h k i m = after-book cs k i m ∙ sym (back-agree n h k i m)
 
   cut_holds : Cut cs l
@@ -150,6 +150,7 @@ module _ (cs : List Call) (l : List ℕ) (R : ReadBack (book cs) l) where
     short = R.short;
     room = λ out h. written out ∙ put-room l out h;
     no_room = λ out h. written out ∙ sym (not-copied out l h).0;
+    suffices = R.suffices;
     no-work = λ n h. (ap (counting n) (R.no-work n h), ap (λ (o : Outcome (List (List ℕ))). after_units n o new_table) (R.no-work n h));
     accepted = λ n h.
         R.accepted n h

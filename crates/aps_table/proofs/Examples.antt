@@ -15,12 +15,12 @@ use Rattle.aps.specs.AlfSyntax.{ceil_log2, coefficient, luma_syntax, to_luma, fr
 use Rattle.aps.specs.ScalingSyntax.{diag_next, diag_scan, skipped, entries, max_id_delta, id_coded, step, sums, coefficients, entry_syntax, scaling_syntax, filled, keep, looked, look}
 use Rattle.aps.specs.ApsSyntax.{zero_alf, zero_lmcs, zero_scaling, payload, aps_syntax, to_aps, from_aps, aps}
 use Rattle.aps.specs.Rbsp.{closed, read_rbsp, rbsp_bits, rbsp_bytes}
-use Rattle.aps.specs.Unit.{header_of, parse_nal_header, is_aps_header, zero_bits, unit_header, admitted, parse_aps}
-use Rattle.aps.specs.Writing.{bytes_due, rbsp_due, unit_of}
+use Rattle.aps.specs.Unit.{header_of, parse_nal_header, is_aps_header, zero_bits, unit_header, fitting}
+use Rattle.aps.specs.Writing.{bytes_due, rbsp_due, not_long, unit_of}
 use Rattle.aps_table.specs.Split.{Units, gap, split}
 use Rattle.aps_table.specs.Places.{named, kind_in, id_in, extended}
 use Rattle.aps_table.specs.Taking.{is_passed, names_place, refused_rbsp, verdict, tally}
-use Rattle.aps_table.specs.Calls.{Call, stream, alone, Answer, counted, accepted, passed, refusal, units_taken, answer_to}
+use Rattle.aps_table.specs.Calls.{Call, stream, alone, Answer, counted, accepted, passed, refusal, longest, units_taken, answer_to}
 use Rattle.aps_table.specs.List.{entry_due, listed, any_extended, list_due}
 use Rattle.aps_table.specs.Book.{note_units, enters, book}
 
@@ -61,10 +61,10 @@ rows =
     ∷ splits (0 ∷ 0 ∷ 1 ∷ 5 ∷ 0 ∷ 0 ∷ 0 ∷ 7 ∷ []) none
     ∷ splits (0 ∷ 1 ∷ []) none
     ∷ splits (7 ∷ 0 ∷ 0 ∷ 1 ∷ []) none
-    ∷ answers (stream example 17) (counts 2 0 0)
-    ∷ answers (stream example 16) (refusal 5)
+    ∷ answers (stream example 3) (counts 2 0 0)
+    ∷ answers (stream example 2) (refusal 5)
     ∷ answers (stream (7 ∷ []) 0) (refusal 2)
-    ∷ answers (stream (0 ∷ 0 ∷ 1 ∷ 0 ∷ 0 ∷ 1 ∷ 0x89 ∷ 0 ∷ 0 ∷ 1 ∷ 0x00 ∷ 0x09 ∷ []) 12) (counts 0 2 1)
+    ∷ answers (stream (0 ∷ 0 ∷ 1 ∷ 0 ∷ 0 ∷ 1 ∷ 0x89 ∷ 0 ∷ 0 ∷ 1 ∷ 0x00 ∷ 0x09 ∷ []) 0) (counts 0 2 1)
     ∷ answers (alone (0x00 ∷ 0x91 ∷ 0x00 ∷ 0x10 ∷ []) 2) accepted
     ∷ answers (alone (0x00 ∷ 0x91 ∷ 0x00 ∷ 0x10 ∷ []) 1) (refusal 5)
     ∷ answers (alone (0x00 ∷ 0x09 ∷ 0x00 ∷ 0x10 ∷ []) 0) passed
@@ -72,7 +72,7 @@ rows =
     ∷ answers (alone (0x00 ∷ 0x89 ∷ 0x24 ∷ []) 1) (refusal 1)
     ∷ answers (alone (0x00 ∷ 0x89 ∷ 0x24 ∷ 0x00 ∷ []) 2) (refusal 2)
     ∷ lists [] (value [] 0)
-    ∷ lists (stream example 17 ∷ []) (value example_list 17)
+    ∷ lists (stream example 3 ∷ []) (value example_list 17)
     ∷ lists (alone (0x00 ∷ 0x89 ∷ 0x00 ∷ 0x20 ∷ []) 2 ∷ []) (refused 3)
     ∷ lists (alone (0x00 ∷ 0x89 ∷ 0x00 ∷ 0x20 ∷ []) 2 ∷ alone (0x00 ∷ 0x89 ∷ 0x00 ∷ 0x82 ∷ []) 2 ∷ []) (value (0 ∷ 0 ∷ 0 ∷ 1 ∷ 0x00 ∷ 0x89 ∷ 0x00 ∷ 0x82 ∷ []) 8)
     ∷ lists (alone alf_0 2 ∷ alone (0x00 ∷ 0x89 ∷ 0x00 ∷ []) 1 ∷ []) (value [] 0)
@@ -93,5 +93,5 @@ rows =
 
 -- each row is as the definitions give it
 pub example-rows : map computed rows ≡ rows
-unfolding rows bit_at field_at field_bits put_in_byte put_bit put_bits pack read_u lacks zero_at zeros_at suffix_at ue_value ue_from read_ue ue_asked ue_zeros ue_bits se_value se_code trailing_value trailing_width trailing_bits read_trailing escape_from unescape_from put_bytes count_leading_zeros whole u ue ◌▷◌ via judged when each_from provided never flag ue_to se se_in signed apart flat in_range lmcs_syntax to_lmcs from_lmcs lmcs ceil_log2 coefficient luma_syntax to_luma from_luma luma alternative chroma_syntax to_chroma from_chroma chroma cc_syntax to_cc from_cc cc alf_syntax to_alf from_alf alf diag_next diag_scan skipped entries max_id_delta id_coded step sums coefficients entry_syntax scaling_syntax filled keep looked look zero_alf zero_lmcs zero_scaling payload aps_syntax to_aps from_aps aps closed read_rbsp rbsp_bits rbsp_bytes bytes_due rbsp_due gap is_passed named names_place refused_rbsp verdict header_of parse_nal_header is_aps_header zero_bits unit_header admitted parse_aps tally units_taken kind_in id_in extended note_units enters entry_due unit_of listed any_extended list_due
+unfolding rows bit_at field_at field_bits put_in_byte put_bit put_bits pack read_u lacks zero_at zeros_at suffix_at ue_value ue_from read_ue ue_asked ue_zeros ue_bits se_value se_code trailing_value trailing_width trailing_bits read_trailing escape_from unescape_from put_bytes count_leading_zeros whole u ue ◌▷◌ via judged when each_from provided never flag ue_to se se_in signed apart flat in_range lmcs_syntax to_lmcs from_lmcs lmcs ceil_log2 coefficient luma_syntax to_luma from_luma luma alternative chroma_syntax to_chroma from_chroma chroma cc_syntax to_cc from_cc cc alf_syntax to_alf from_alf alf diag_next diag_scan skipped entries max_id_delta id_coded step sums coefficients entry_syntax scaling_syntax filled keep looked look zero_alf zero_lmcs zero_scaling payload aps_syntax to_aps from_aps aps closed read_rbsp rbsp_bits rbsp_bytes bytes_due rbsp_due not_long gap is_passed named names_place refused_rbsp verdict header_of parse_nal_header is_aps_header zero_bits unit_header fitting longest tally units_taken kind_in id_in extended note_units enters entry_due unit_of listed any_extended list_due
 example-rows = refl

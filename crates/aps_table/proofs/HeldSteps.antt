@@ -3,7 +3,7 @@ use mathlib.Core.Path.{◌≡◌, sym, ap, ◌∙◌}
 use mathlib.Core.Bool.{true, false}
 use mathlib.Core.List.{List}
 use mathlib.Core.Option.{Option, some}
-use Prim.Native.Nat.{ℕ, ◌/◌}
+use Prim.Native.Nat.{ℕ, ◌/◌, ◌≤◌}
 use native.Mathlib.Omega.{arith}
 use lib.ListN.{length, take, drop}
 use Rattle.bitstream.specs.Outcome.{value, refused, map_outcome}
@@ -11,7 +11,7 @@ use Rattle.bitstream.proofs.KeepLaws.{Bytes}
 use Rattle.aps.specs.Rbsp.{read_rbsp, parse_aps_rbsp}
 use Rattle.aps.specs.Unit.{unit_header}
 use Rattle.aps.specs.declared.unit_header.UnitHeader.{UnitHeader}
-use Rattle.aps.proofs.RbspLaws.{rbsp-sound, read-write}
+use Rattle.aps.proofs.RbspLaws.{rbsp-sound, read-write, length-read}
 use Rattle.aps.proofs.RbspSteps.{in-limits}
 use Rattle.aps_table.specs.Places.{HeldAps, with_header, Names, place_bytes, under, held, extended}
 use Rattle.aps_table.specs.List.{coded, entry, joined}
@@ -34,8 +34,8 @@ unfolding extended
 held-extended l p x e f = sym (ap (joined (value l p)) (ap entry e ∙ due-extended x f))
 
 -- any other is written as the bytes that were read
-pub held_plain : (s : List ℕ) (x : HeldAps) (q : ℕ) {o : Option HeldAps} → read_rbsp s ≡ value x.set q → o ≡ some x → x.set.aps_extension_flag ≡ false → Bytes s
+pub held_plain : (s : List ℕ) (x : HeldAps) (q : ℕ) {o : Option HeldAps} → read_rbsp s ≡ value x.set q → o ≡ some x → x.set.aps_extension_flag ≡ false → Bytes s → length s ≤ 2048
     → entry o ≡ value (coded x.header (take (q / 8) s)) (length (coded x.header (take (q / 8) s)))
 unfolding extended
-held_plain s x q e f g y =
-    ap entry f ∙ due-plain x g (rbsp-sound s x.set q e).0 ∙ ap (λ (l : List ℕ). value (coded x.header l) (length (coded x.header l))) (read-write s x.set q e g y)
+held_plain s x q e f g y m =
+    ap entry f ∙ due-plain x g (rbsp-sound s x.set q e).0 (omega (arith, length-read s x.set q e g, m)) ∙ ap (λ (l : List ℕ). value (coded x.header l) (length (coded x.header l))) (read-write s x.set q e g y)

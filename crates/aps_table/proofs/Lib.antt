@@ -9,6 +9,7 @@ pub mod ListLaws
 pub mod ListSteps
 pub mod PlaceSteps
 pub mod PlaceReads
+pub mod RoomLaws
 pub mod SplitLaws
 pub mod SplitTurns
 pub mod StoreLaws

@@ -51,7 +51,7 @@ module _ (out : List ℕ) (p : ℕ) (head : UnitHeader) (bytes : List ℕ) (size
   unfolding write_nal put_bytes
   unit-room =
       let m : length rest ≡ LIST_BYTES - (p + 4) = length-take-le (LIST_BYTES - (p + 4)) (drop (p + 4) out) (omega (arith, h, length-drop (p + 4) out)) in
-      rw (h.1.1, le-ltb 65536 (length bytes) (omega (arith, h)), le-ltb (length rest) (length unit) (omega (arith, h, unit-small)))
+      rw (h.1.1, le-ltb 2048 (length bytes) (omega (arith, h)), le-ltb (length rest) (length unit) (omega (arith, h, unit-small)))
 
   -- so no refusal comes
   pub unit-refused : (n : ℕ) → refused n ≡ write_nal bytes head rest → ⊥
@@ -137,7 +137,7 @@ module _ {t : List ℕ} {list : CutList} {index : ℕ} (L : Listing t list index
   -- it was put
   pub listing-next : (last : CutList) → so_far last ≡ joined (so_far list) (entry (held t n.0 n.1)) → Listing t last (index + 1)
   listing-next last e = record {
-    room-left = omega (arith, listing-room, entry-within n.0 list.len (held t n.0 n.1) _ _ last.len (λ x g. (held-some t n.0 n.1 x g).0) e);
+    room-left = omega (arith, listing-room, entry-within n.0 list.len (held t n.0 n.1) _ _ last.len (λ x g. (held-some t n.0 n.1 x g).kind-is) e);
     whole = ap (λ (o : Outcome (List ℕ)). joined o (listed (drop (index + 1) names) (held t))) e ∙ next-whole;
   }
 

@@ -125,12 +125,12 @@ module _ (r : List ℕ) (a : VvcAps) (q : ℕ) (e : read_rbsp r ≡ value a q) w
   unfolding kind_in id_in
   read_names = names-of a.kind a.aps_adaptation_parameter_set_id (rbsp-id r a q e)
 
-  pub read_fits : length (take ((q + 7) / 8) r) ≤ most_bytes (kind_in a)
+  pub read_fits : length r ≤ 2048 → length (take ((q + 7) / 8) r) ≤ most_bytes (kind_in a)
   unfolding kind_in
-  read_fits = omega (arith, read-most r a q e, length-take-le ((q + 7) / 8) r (omega (arith, rbsp-end r a q e)))
+  read_fits m = omega (arith, read-most r a q e m, length-take-le ((q + 7) / 8) r (omega (arith, rbsp-end r a q e)))
 
 -- a header and a set that was read
-module _ (r : List ℕ) (x : HeldAps) (q : ℕ) (e : read_rbsp r ≡ value x.set q) (g : is_aps_header x.header ≡ true) where
+module _ (r : List ℕ) (x : HeldAps) (q : ℕ) (e : read_rbsp r ≡ value x.set q) (m : length r ≤ 2048) (g : is_aps_header x.header ≡ true) where
   k : ℕ
   k = kind_in x.set
 
@@ -151,7 +151,7 @@ module _ (r : List ℕ) (x : HeldAps) (q : ℕ) (e : read_rbsp r ≡ value x.set
 
   bytes-fit : length bytes ≤ place_size k
   unfolding bytes k
-  bytes-fit = omega (arith, read_fits r x.set q e)
+  bytes-fit = omega (arith, read_fits r x.set q e m)
 
   names-it : Names k i
   unfolding k i

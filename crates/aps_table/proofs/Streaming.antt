@@ -1,6 +1,7 @@
 -- A stream taken unit by unit: its refusals, and the loop's invariant with its turn and its end.
 use Rattle.std.specs.Prelude.{Option, None, Some, Result, Ok, Err}
-use borrow.Author.Tests.{lt-ltb, le-ltb}
+use borrow.Author.Tests.{lt-ltb, le-ltb, le-leb, leb-true, leb-false}
+use lib.Dec.{leb}
 use mathlib.Core.Path.{◌≡◌, refl, sym, ap, ◌∙◌}
 use mathlib.Core.Bool.{true, false, false≢true}
 use mathlib.Core.List.{List, [], ◌∷◌, append-nil}
@@ -10,11 +11,12 @@ use native.Mathlib.Omega.{arith}
 use lib.ListN.{length, drop}
 use Rattle.bitstream.specs.Outcome.{value, refused}
 use Rattle.bitstream.specs.declared.Refusal.{Refusal}
-use Rattle.aps.specs.Unit.{work_after}
+use Rattle.aps.specs.Unit.{rbsp_of, unit_header, work_after}
 use Rattle.aps_table.specs.Split.{Units, split, prepend, ended, gap}
 use Rattle.aps_table.specs.Inner.{UnitAt, Follows, between, splits, units_of}
 use Rattle.aps_table.specs.Taking.{Verdict, accept, pass, damage, refuse, verdict, take_unit, take_units, work_units, count, tally, no_units}
-use Rattle.aps_table.specs.Calls.{Answer, counted, refusal, single, fitting, units_taken, after_units, counting, work_after_stream}
+use Rattle.aps_table.specs.Calls.{read_of, longest, Answer, counted, refusal, single, fitted, units_taken, after_units, counting, work_after_stream}
+use Rattle.aps_table.proofs.RoomLaws.{longest-most, room-first, room-none}
 use Rattle.aps_table.specs.declared.split.Unit.{Unit as Next}
 use Rattle.aps_table.specs.declared.table.Counts.{Counts}
 
@@ -36,7 +38,7 @@ module _ (s w t : List ℕ) where
 
   module _ (h : length s ≤ 65536) where
     -- the split first
-    taken-by : units_taken s (length w) ≡ fitting s (length w) (split s)
+    taken-by : units_taken s (length w) ≡ fitted s (length w) (split s)
     unfolding units_taken
     taken-by = rw (le-ltb _ _ h)
 
@@ -44,27 +46,27 @@ module _ (s w t : List ℕ) where
     pub refused-2 : splits (split s) ≡ false → Taken s w t (refusal 2) t w
     refused-2 e = stays 2 (taken-by ∙ go (split s) e)
       where
-        go : (r : Units) → splits r ≡ false → fitting s (length w) r ≡ refused 2
+        go : (r : Units) → splits r ≡ false → fitted s (length w) r ≡ refused 2
         go none e = refl
         go (some us) e = absurd (false≢true (sym e))
 
     module _ (e : splits (split s) ≡ true) where
       -- the work buffer is too short
-      pub refused-5 : length w < length s → Taken s w t (refusal 5) t w
-      refused-5 l = stays 5 (taken-by ∙ go (split s) e)
+      pub refused-5 : leb (longest (units_of (split s))) (length w) ≡ false → Taken s w t (refusal 5) t w
+      refused-5 l = stays 5 (taken-by ∙ go (split s) e l)
         where
-          go : (r : Units) → splits r ≡ true → fitting s (length w) r ≡ refused 5
-          go none e = absurd (false≢true e)
-          go (some us) e = rw (lt-ltb (length w) (length s) l)
+          go : (r : Units) → splits r ≡ true → leb (longest (units_of r)) (length w) ≡ false → fitted s (length w) r ≡ refused 5
+          go none e l = absurd (false≢true e)
+          go (some us) e l = rw (lt-ltb (length w) (longest us) (leb-false _ _ l))
 
       -- its units are taken
-      pub all-taken : length s ≤ length w → (c : Counts) (t' w' : List ℕ) → c ≡ tally (length w) (units_of (split s)) no_units → t' ≡ take_units (length w) (units_of (split s)) t → w' ≡ work_units (units_of (split s)) w
+      pub all-taken : leb (longest (units_of (split s))) (length w) ≡ true → (c : Counts) (t' w' : List ℕ) → c ≡ tally (length w) (units_of (split s)) no_units → t' ≡ take_units (length w) (units_of (split s)) t → w' ≡ work_units (units_of (split s)) w
           → Taken s w t (counted c) t' w'
-      all-taken l c t' w' ec et ew = rw (taken-by ∙ go (split s) e) (ap counted ec, (et, ew))
+      all-taken l c t' w' ec et ew = rw (taken-by ∙ go (split s) e l) (ap counted ec, (et, ew))
         where
-          go : (r : Units) → splits r ≡ true → fitting s (length w) r ≡ value (units_of r) (length s)
-          go none e = absurd (false≢true e)
-          go (some us) e = rw (le-ltb (length w) (length s) l)
+          go : (r : Units) → splits r ≡ true → leb (longest (units_of r)) (length w) ≡ true → fitted s (length w) r ≡ value (units_of r) (length s)
+          go none e l = absurd (false≢true e)
+          go (some us) e l = rw (le-ltb (length w) (longest us) (leb-true _ _ l))
 
 -- ---- the loop
 
@@ -133,3 +135,47 @@ module _ {s w₀ t₀ w t : List ℕ} {c : Counts} {i : ℕ} (S : Streaming s w�
       let l : left s i ≡ [] = ap units_of f in
       (rw l at S.counts, (rw l at S.table, rw l at S.work))
   finish (Err e) f n = absurd (false≢true (sym (ap splits f.1) ∙ S.holds))
+
+-- ---- the room that the units need
+
+-- the units that are left need what all need
+pub record Needing (s : List ℕ) (room i : ℕ) : Type 0 where
+  pub within : i ≤ length s
+  pub holds : splits (gap 0 (drop i s)) ≡ true
+  pub needs : leb (longest (units_of (split s))) room ≡ leb (longest (left s i)) room
+
+pub needing-start : (s : List ℕ) (room : ℕ) → splits (split s) ≡ true → Needing s room 0
+needing-start s room h = record { within = omega arith; holds = h; needs = refl }
+
+module _ {s : List ℕ} {room i : ℕ} (N : Needing s room i) where
+  module _ (a e : ℕ) (f : UnitAt s i a e) where
+    -- the next unit and those after it
+    next-needs : (splits (gap 0 (drop e s)) ≡ true) × (left s i ≡ between s a e ∷ left s e)
+    next-needs =
+        let n = next-left (between s a e) (gap 0 (drop e s)) (sym (ap splits f.is) ∙ N.holds) in
+        (n.1, ap units_of f.is ∙ n.0)
+
+    -- it has room
+    pub needing-next : leb (read_of (unit_header (between s a e)) (rbsp_of (between s a e))) room ≡ true → Needing s room e
+    needing-next h =
+        let (k, l) = next-needs in
+        record { within = f.to; holds = k; needs = N.needs ∙ ap (λ (us : List (List ℕ)). leb (longest us) room) l ∙ room-first (between s a e) (left s e) room h }
+
+    -- it has none
+    pub needing-none : leb (read_of (unit_header (between s a e)) (rbsp_of (between s a e))) room ≡ false → false ≡ leb (longest (units_of (split s))) room
+    needing-none h =
+        let (k, l) = next-needs in
+        sym (N.needs ∙ ap (λ (us : List (List ℕ)). leb (longest us) room) l ∙ room-none (between s a e) (left s e) room h)
+
+  -- no unit follows
+  pub needing-done : (r : Result (Option Next) Refusal) → Follows s i r → ((u : Next) → r ≡ Ok (Some u) → ⊥) → true ≡ leb (longest (units_of (split s))) room
+  unfolding longest
+  needing-done (Ok (Some u)) f n = absurd (n u refl)
+  needing-done (Ok None) f n =
+      let l : left s i ≡ [] = ap units_of f in
+      sym (N.needs ∙ ap (λ (us : List (List ℕ)). leb (longest us) room) l ∙ le-leb 0 room (omega arith))
+  needing-done (Err e) f n = absurd (false≢true (sym (ap splits f.1) ∙ N.holds))
+
+-- 2,048 bytes are enough
+pub enough : (s : List ℕ) (room : ℕ) → 2048 ≤ room → true ≡ leb (longest (units_of (split s))) room
+enough s room h = sym (le-leb _ _ (omega (arith, longest-most (units_of (split s)), h)))

@@ -20,7 +20,7 @@ use Rattle.aps.specs.declared.aps.VvcAps.{VvcAps}
 use Rattle.bitstream.proofs.CodeLaws.{value-refused}
 use Rattle.aps.proofs.CodecLaws.{then-value, and_left, and_right}
 use Rattle.aps.proofs.RbspLaws.{rbsp-end, read-most}
-use Rattle.aps.proofs.UnitSteps.{headed, not-admitted, unit-refused}
+use Rattle.aps.proofs.UnitSteps.{headed, not-admitted, admitted-lengths, unit-refused}
 use Rattle.aps_table.specs.Places.{place_at, kind_in, id_in}
 use Rattle.aps_table.specs.Inner.{names_damaged}
 use Rattle.aps_table.specs.Taking.{is_passed, verdict, clear, take_unit}
@@ -45,8 +45,8 @@ no-header u {n} = go (ltb 65536 (length u)) (ltb (length u) 2) refl refl
 
 module _ (u w t : List ℕ) (p : is_passed u ≡ true) where
   -- its header is refused
-  judged-passed : admitted u (length w) ≡ refused 2
-  unfolding is_passed admitted unit_header parse_nal_header header_of is_aps_header
+  judged-passed : unit_header u ≡ refused 2
+  unfolding is_passed unit_header parse_nal_header header_of is_aps_header
   judged-passed =
       let a = leb (length u) 65536 in
       let b = leb 2 (length u) in
@@ -57,7 +57,7 @@ module _ (u w t : List ℕ) (p : is_passed u ≡ true) where
   -- nothing changes
   pub passes : (passed ≡ single (verdict u (length w))) × ((t ≡ take_unit (length w) u t) × (w ≡ work_after u w))
   unfolding verdict take_unit
-  passes = (rw p, (rw p, sym (unit-refused u w 2 judged-passed).1))
+  passes = (rw p, (rw p, sym (unit-refused u w 2 (not-admitted u (length w) 2 judged-passed)).1))
 
 -- ---- refused or accepted
 
@@ -66,7 +66,7 @@ module _ (u w t : List ℕ) (p : is_passed u ≡ false) where
   pub header-refuses : (n : ℕ) → unit_header u ≡ refused n → (refusal n ≡ single (verdict u (length w))) × ((t ≡ take_unit (length w) u t) × (w ≡ work_after u w))
   unfolding take_unit
   header-refuses n e =
-      let v = header-verdict u (length w) n p e in
+      let v = header-verdict u (length w) p n e in
       (rw v, (rw v, sym (unit-refused u w n (not-admitted u (length w) n e)).1))
 
 module _ (u w t : List ℕ) (p : is_passed u ≡ false) (h : UnitHeader) (f : unit_header u ≡ value h 16) (n : ℕ) (e : parse_aps u (length w) ≡ refused n) where
@@ -88,6 +88,14 @@ module _ (u w : List ℕ) (a : VvcAps) (q : ℕ) (e : parse_aps u (length w) ≡
       let (x, r, ej, er) = then-value (admitted u (length w)) (λ e p. read_rbsp (rbsp_of u)) e in
       (er, rw ej)
 
+  -- it is not too long
+  unit-few : length (rbsp_of u) ≤ 2048
+  unfolding parse_aps
+  unit-few =
+      let (x, r, ej, er) = then-value (admitted u (length w)) (λ e p. read_rbsp (rbsp_of u)) e in
+      let (g, two, m, l) = admitted-lengths u (length w) x ej in
+      m
+
   -- the bytes that were read end in the RBSP
   read-within : (q + 7) / 8 ≤ length (rbsp_of u)
   read-within = omega (arith, rbsp-end (rbsp_of u) a q unit-set.0)
@@ -95,7 +103,7 @@ module _ (u w : List ℕ) (a : VvcAps) (q : ℕ) (e : parse_aps u (length w) ≡
   -- they are few
   pub read-few : q + 7 ≤ 300000
   unfolding kind_in
-  read-few = omega (arith, read-most (rbsp_of u) a q unit-set.0, (place-within (kind_in a) (id_in a) (read_names (rbsp_of u) a q unit-set.0)).1)
+  read-few = omega (arith, read-most (rbsp_of u) a q unit-set.0 unit-few, (place-within (kind_in a) (id_in a) (read_names (rbsp_of u) a q unit-set.0)).1)
 
   module _ (v : List ℕ) (f : v ≡ work_after u w) where
     -- they are in the work buffer
@@ -115,7 +123,7 @@ module _ (u w : List ℕ) (a : VvcAps) (q : ℕ) (e : parse_aps u (length w) ≡
       -- they fit there
       pub bytes_fit : length (take ((q + 7) / 8) v) ≤ most_bytes (number_of h.kind)
       unfolding kind_in
-      bytes_fit = rw (g, bytes_read) (read_fits (rbsp_of u) a q unit-set.0)
+      bytes_fit = rw (g, bytes_read) (read_fits (rbsp_of u) a q unit-set.0 unit-few)
 
       -- an accepted unit replaces its place
       pub stores : (t : List ℕ) → is_passed u ≡ false → (k : UnitHeader) → unit_header u ≡ value k 16

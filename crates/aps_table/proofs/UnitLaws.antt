@@ -4,6 +4,7 @@ use mathlib.Core.Bool.{Bool, true, false, ◌&&◌}
 use mathlib.Core.List.{List, [], ◌∷◌, append-nil}
 use Prim.Native.Nat.{ℕ, zero, suc, ◌+◌, ◌-◌, ◌*◌, ◌/◌, ◌≤◌}
 use native.Mathlib.Omega.{arith}
+use borrow.Author.Tests.{le-ltb}
 use lib.Dec.{leb}
 use lib.ListN.{length}
 use Rattle.bitstream.specs.Outcome.{value}
@@ -11,15 +12,16 @@ use Rattle.bitstream.specs.Escapes.{escape, zeros_at_end, Clean}
 use Rattle.bitstream.proofs.EscapeLaws.{none-at-end, escape-clean, escape-trailing}
 use Rattle.aps.specs.ApsSyntax.{aps, inferred}
 use Rattle.aps.specs.Rbsp.{read_rbsp, rbsp_bytes}
-use Rattle.aps.specs.Unit.{is_aps_header, parse_aps}
+use Rattle.aps.specs.Unit.{rbsp_of, is_aps_header, unit_header, parse_aps}
 use Rattle.aps.specs.declared.unit_header.UnitHeader.{UnitHeader}
 use Rattle.aps.specs.declared.aps.VvcAps.{VvcAps}
-use Rattle.aps.proofs.RbspLaws.{rbsp-sound, write_read, rbsp-some, rbsp-last}
+use Rattle.aps.proofs.RbspLaws.{rbsp-sound, write_read, rbsp-some, rbsp-last, length-read}
 use Rattle.aps.specs.Writing.{unit_of}
 use Rattle.aps.proofs.UnitSteps.{aps-within, aps-type}
-use Rattle.aps.proofs.RoundTrips.{unit-headed, unit-parsed}
+use Rattle.aps.proofs.RoundTrips.{unit-rbsp, unit-headed, unit-parsed}
 use Rattle.aps_table.specs.Places.{HeldAps, kind_in, extended}
 use Rattle.aps_table.specs.Taking.{accept, is_passed, verdict}
+use Rattle.aps_table.specs.Calls.{read_of}
 use Rattle.aps_table.specs.List.{entry_due}
 use Rattle.aps_table.specs.Inner.{most_listed}
 use Rattle.aps_table.proofs.SplitLaws.{Fit}
@@ -70,15 +72,18 @@ pub record Written (x : HeldAps) : Type 0 where
   pub fit : Fit unit
   pub small : 4 + length unit ≤ most_listed (kind_in x.set)
   pub end : ℕ
-  pub back : (room : ℕ) → length unit ≤ room → verdict unit room ≡ accept x end
+  pub back : (room : ℕ) → read_of (unit_header unit) (rbsp_of unit) ≤ room → verdict unit room ≡ accept x end
 
-module _ (r : List ℕ) (x : HeldAps) (q : ℕ) (e : read_rbsp r ≡ value x.set q) (g : is_aps_header x.header ≡ true) (f : extended x.set ≡ false) where
+module _ (r : List ℕ) (x : HeldAps) (q : ℕ) (e : read_rbsp r ≡ value x.set q) (s : length r ≤ 2048) (g : is_aps_header x.header ≡ true) (f : extended x.set ≡ false) where
   sound : (aps.ok x.set ≡ true) × (inferred x.set ≡ x.set)
   sound = rbsp-sound r x.set q e
 
   plain : x.set.aps_extension_flag ≡ false
   unfolding extended
   plain = f
+
+  short : length (rbsp_bytes x.set) ≤ 2048
+  short = omega (arith, length-read r x.set q e plain, s)
 
   whole : zeros_at_end 0 (rbsp_bytes x.set) ≡ 0
   whole =
@@ -87,21 +92,26 @@ module _ (r : List ℕ) (x : HeldAps) (q : ℕ) (e : read_rbsp r ≡ value x.set
       none-at-end 0 (rbsp_bytes x.set) n s (rbsp-last x.set sound.0 n s)
 
   entry-due : entry_due x ≡ value (0 ∷ 0 ∷ 0 ∷ 1 ∷ unit_of x.header (rbsp_bytes x.set)) (length (0 ∷ 0 ∷ 0 ∷ 1 ∷ unit_of x.header (rbsp_bytes x.set)))
-  entry-due = due-plain x f sound.0
+  entry-due = due-plain x f sound.0 short
 
   unit-small : 4 + length (unit_of x.header (rbsp_bytes x.set)) ≤ most_listed (kind_in x.set)
   unfolding kind_in
   unit-small = omega (arith, entry-most x _ _ entry-due)
 
-  unit-back : (room : ℕ) → length (unit_of x.header (rbsp_bytes x.set)) ≤ room → verdict (unit_of x.header (rbsp_bytes x.set)) room ≡ accept x (8 * length (rbsp_bytes x.set))
+  -- its unit has a header of its own, and the set's RBSP
+  unit-is : unit_header (unit_of x.header (rbsp_bytes x.set)) ≡ value x.header 16
+  unit-is = unit-headed x.header (rbsp_bytes x.set) g (omega (arith, unit-small, most-of-all (kind_in x.set)))
+
+  unit-back : (room : ℕ) → read_of (unit_header (unit_of x.header (rbsp_bytes x.set))) (rbsp_of (unit_of x.header (rbsp_bytes x.set))) ≤ room
+      → verdict (unit_of x.header (rbsp_bytes x.set)) room ≡ accept x (8 * length (rbsp_bytes x.set))
   unit-back room h =
       let l = rbsp_bytes x.set in
       let u = unit_of x.header l in
-      let m : length u ≤ 65536 = omega (arith, unit-small, most-of-all (kind_in x.set)) in
-      let p : parse_aps u room ≡ read_rbsp l = unit-parsed x.header l room g m (omega arith) in
+      let k : length l ≤ room = rw (unit-is, unit-rbsp x.header l, le-ltb 2048 (length l) short) at h in
+      let p : parse_aps u room ≡ read_rbsp l = unit-parsed x.header l room g (omega (arith, unit-small, most-of-all (kind_in x.set))) short k in
       let b : read_rbsp l ≡ value x.set (8 * length l)
       = ap read_rbsp (sym (append-nil l)) ∙ write_read x.set sound.0 plain [] ∙ ap (λ (c : VvcAps). value c (8 * length l)) sound.1 in
-      accepted-unit u room (unit-passed x.header l g) x.header x.set (8 * length l) (unit-headed x.header l g m) (p ∙ b)
+      accepted-unit u room (unit-passed x.header l g) x.header x.set (8 * length l) unit-is (p ∙ b)
 
   pub unit-written : Written x
   unit-written = record {

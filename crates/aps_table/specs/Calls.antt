@@ -1,7 +1,9 @@
 -- The calls that change a table: what each does to it and answers.
-use Rattle.std.specs.Prelude.{ℕ, cond, List, ltb, length}
+use Rattle.std.specs.Prelude.{ℕ, cond, List, [], ◌∷◌, ltb, length}
 use Rattle.std.proofs.Math.Option.{none, some}
 use Rattle.bitstream.specs.Outcome.{Outcome, value, refused}
+use Rattle.aps.specs.Unit.{rbsp_of, unit_header}
+use Rattle.aps.specs.declared.unit_header.UnitHeader.{UnitHeader}
 use Rattle.aps_table.specs.Split.{Units, split}
 use Rattle.aps_table.specs.Taking.{Verdict, accept, pass, damage, refuse, verdict, take_unit, take_units, work_units, tally, no_units}
 use Rattle.aps_table.specs.declared.table.Counts.{Counts}
@@ -18,14 +20,27 @@ pub data Answer : Type 0 where
   passed : Answer
   refusal : ℕ → Answer
 
--- 2: the split is refused; 5: the work buffer is shorter than the stream
-abbrev pub fitting : List ℕ → ℕ → Units → Outcome (List (List ℕ))
-fitting s room none = refused 2
-fitting s room (some us) = cond (ltb room (length s)) (refused 5) (value us (length s))
+abbrev pub larger : ℕ → ℕ → ℕ
+larger n m = cond (ltb n m) m n
+
+-- how long the RBSP is that is read of a unit: an APS unit's whose header is accepted, and which is not over 2,048 bytes
+abbrev pub read_of : Outcome UnitHeader → List ℕ → ℕ
+read_of (value h p) r = cond (ltb 2048 (length r)) 0 (length r)
+read_of (refused n) r = 0
+
+-- of units the longest
+unfoldable pub longest : List (List ℕ) → ℕ
+longest [] = 0
+longest (u ∷ us) = larger (read_of (unit_header u) (rbsp_of u)) (longest us)
+
+-- 2: the split is refused; 5: the work buffer is shorter than the longest RBSP that is read
+abbrev pub fitted : List ℕ → ℕ → Units → Outcome (List (List ℕ))
+fitted s room none = refused 2
+fitted s room (some us) = cond (ltb room (longest us)) (refused 5) (value us (length s))
 
 -- the units of a stream. 4: it is over 65,536 bytes
 unfoldable pub units_taken : List ℕ → ℕ → Outcome (List (List ℕ))
-units_taken s room = cond (ltb 65536 (length s)) (refused 4) (fitting s room (split s))
+units_taken s room = cond (ltb 65536 (length s)) (refused 4) (fitted s room (split s))
 
 -- ---- the table after a call
 

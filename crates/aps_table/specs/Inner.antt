@@ -1,7 +1,7 @@
 -- For the proofs' sake: what the inner functions promise each other on the way. No public contract says anything of this file.
 use Rattle.bitstream.specs.declared.Refusal.{Refusal}
 use Rattle.bitstream.specs.declared.Refusal.TheVariants.{InvalidData}
-use Rattle.std.specs.Prelude.{ℕ, ◌+◌, ◌-◌, ◌*◌, ◌/◌, ◌%◌, ◌≤◌, ◌<◌, ◌≡◌, Bool, true, false, ◌&&◌, leb, List, [], length, get_or, take, drop, Option, None, Some, Result, Ok, Err}
+use Rattle.std.specs.Prelude.{ℕ, ◌+◌, ◌-◌, ◌*◌, ◌/◌, ◌%◌, ◌≤◌, ◌<◌, ◌≡◌, Bool, true, false, ◌&&◌, ltb, leb, List, [], length, get_or, take, drop, Option, None, Some, Result, Ok, Err}
 use Rattle.std.proofs.Math.Option.{none, some}
 use Rattle.bitstream.specs.Outcome.{Outcome, value, refused, number}
 use Rattle.aps.specs.Kinds.{largest_id, most_bytes}
@@ -13,6 +13,7 @@ use Rattle.aps.specs.Unit.{unit_header}
 use Rattle.aps.specs.declared.unit_header.UnitHeader.{UnitHeader}
 use Rattle.aps_table.specs.Places.{HeldAps, named, held, place_bytes}
 use Rattle.aps_table.specs.declared.held_set.HeldSet.{HeldSet}
+use Rattle.aps_table.specs.Taking.{damages}
 use Rattle.aps_table.specs.declared.list.CutList.{CutList}
 use Rattle.aps_table.specs.declared.split.Unit.{Unit as Next}
 use Rattle.aps_table.specs.Split.{Units, prepend, ended, gap, body}
@@ -119,6 +120,6 @@ most_listed k = 6 + most_bytes k * 3 / 2
 abbrev pub list_bytes : ℕ
 list_bytes = (largest_id 0 + 1) * most_listed 0 + (largest_id 1 + 1) * most_listed 1 + (largest_id 2 + 1) * most_listed 2
 
--- a unit of three bytes or more, refused with 1 or 2, whose third byte names a place
+-- a unit of three bytes or more, refused with 1, 2 or 4, whose third byte names a place
 unfoldable pub names_damaged : List ℕ → ℕ → Bool
-names_damaged u n = leb n 2 && (leb 3 (length u) && named (get_or u 2 0 / 32) (get_or u 2 0 % 32))
+names_damaged u n = damages n && (leb 3 (length u) && named (get_or u 2 0 / 32) (get_or u 2 0 % 32))

@@ -1,9 +1,9 @@
 -- What a unit comes to, and what units do to the table, the work buffer and the counts.
-use Rattle.std.specs.Prelude.{ℕ, ◌+◌, ◌/◌, ◌%◌, Bool, cond, not, ◌&&◌, List, [], ◌∷◌, ◌++◌, leb, length, get_or, take, replicate}
+use Rattle.std.specs.Prelude.{ℕ, ◌+◌, ◌/◌, ◌%◌, Bool, cond, not, ◌&&◌, ◌||◌, List, [], ◌∷◌, ◌++◌, leb, eqb, length, get_or, take, replicate}
 use Rattle.std.proofs.lemmas.List.Edits.{sets}
-use Rattle.bitstream.specs.Outcome.{Outcome, value, refused}
+use Rattle.bitstream.specs.Outcome.{Outcome, value, refused, ◌then◌}
 use Rattle.aps.specs.Rbsp.{read_rbsp}
-use Rattle.aps.specs.Unit.{is_aps, rbsp_of, admitted, work_after}
+use Rattle.aps.specs.Unit.{is_aps, rbsp_of, unit_header, fitting, work_after}
 use Rattle.aps.specs.Writing.{header_bytes}
 use Rattle.aps.specs.declared.aps.VvcAps.{VvcAps}
 use Rattle.aps.specs.declared.unit_header.UnitHeader.{UnitHeader}
@@ -21,18 +21,22 @@ pub data Verdict : Type 0 where
 unfoldable pub names_place : List ℕ → Bool
 names_place r = leb 1 (length r) && named (get_or r 0 0 / 32) (get_or r 0 0 % 32)
 
--- an RBSP that is refused with 1 or 2 and names a place is damaged
+-- what an RBSP that its place cannot hold is refused with: 1; 2; 4, it is too long
+abbrev pub damages : ℕ → Bool
+damages n = leb n 2 || eqb n 4
+
+-- an RBSP that is refused with one of them and names a place is damaged
 unfoldable pub refused_rbsp : List ℕ → ℕ → Verdict
-refused_rbsp r n = cond (names_place r && leb n 2) (damage (get_or r 0 0 / 32) (get_or r 0 0 % 32) n) (refuse n)
+refused_rbsp r n = cond (names_place r && damages n) (damage (get_or r 0 0 / 32) (get_or r 0 0 % 32) n) (refuse n)
 
 abbrev pub rbsp_verdict : UnitHeader → List ℕ → Outcome VvcAps → Verdict
 rbsp_verdict h r (value a q) = accept (with_header h a) q
 rbsp_verdict h r (refused n) = refused_rbsp r n
 
--- a unit whose header is refused is not damaged
-abbrev pub unit_verdict : Outcome UnitHeader → List ℕ → Verdict
-unit_verdict (value h p) r = rbsp_verdict h r (read_rbsp r)
-unit_verdict (refused n) r = refuse n
+-- a unit whose header is refused is not damaged, nor one for whose RBSP the work buffer is too short
+abbrev pub unit_verdict : Outcome UnitHeader → List ℕ → ℕ → Verdict
+unit_verdict (value h p) r room = rbsp_verdict h r (fitting r room then λ x q. read_rbsp r)
+unit_verdict (refused n) r room = refuse n
 
 -- passed over: not over 65,536 bytes, 2 or more, and a type other than 17 or 18
 unfoldable pub is_passed : List ℕ → Bool
@@ -40,7 +44,7 @@ is_passed u = leb (length u) 65536 && (leb 2 (length u) && not (is_aps (get_or u
 
 -- with a work buffer of `room` bytes: accepted exactly where `parse_aps` gives a set
 unfoldable pub verdict : List ℕ → ℕ → Verdict
-verdict u room = cond (is_passed u) pass (unit_verdict (admitted u room) (rbsp_of u))
+verdict u room = cond (is_passed u) pass (unit_verdict (unit_header u) (rbsp_of u) room)
 
 -- an emptied place is zeros
 unfoldable pub clear : ℕ → ℕ → List ℕ → List ℕ

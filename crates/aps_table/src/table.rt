@@ -1,24 +1,27 @@
 // The table: a unit alone and a stream taken into it, and the lookup.
-ghost use Rattle.std.specs.Prelude.{◌≡◌, true, false, ◌+◌, ◌/◌, ◌%◌, ◌≤◌, ◌<◌, length, get_or, IfSome, IfNone};
+ghost use Rattle.std.specs.Prelude.{◌≡◌, true, false, leb, ◌+◌, ◌/◌, ◌%◌, ◌≤◌, ◌<◌, length, get_or, IfSome, IfNone};
 ghost use Rattle.bitstream.specs.Outcome.{number};
 ghost use Rattle.aps.specs.Unit.{work_after};
 ghost use Rattle.aps.specs.ApsSyntax.{number_of};
 ghost use Rattle.aps.specs.Reading.{head_of, part_by};
 ghost use Rattle.aps_table.specs.Split.{split};
+ghost use Rattle.aps.specs.Unit.{rbsp_of, unit_header};
 ghost use Rattle.aps_table.specs.Inner.{splits, units_of, names_damaged, Owned};
 ghost use Rattle.aps_table.specs.Places.{found_in, held, looked_up};
 ghost use Rattle.aps_table.specs.Taking.{Verdict, is_passed, take_units, work_units, tally, no_units, count as count_of};
-ghost use Rattle.aps_table.specs.Calls.{stream, alone, single, table_after, answer_to, work_after_stream};
+ghost use Rattle.aps_table.specs.Calls.{read_of, longest, stream, alone, single, table_after, answer_to, work_after_stream};
 ghost use Rattle.aps_table.specs.Answers.{unit_answer, stream_answer, lookup_answer, looked_answer, looked_by};
 
 use crate::held_set::HeldSet;
 use crate::places::{HEADER_BYTES, Place, Table};
 use crate::split::Cursor;
+use aps::LONGEST_RBSP;
 use aps::aps::{ApsHead, Reading, VvcAps, parse_aps_head, parse_aps_rbsp};
 use aps::nal_header::parse_nal_header;
 use aps::payload::{ApsOf, Payload};
 use aps::unit::parse_unit_head;
 use aps::unit_header::{is_aps, parse_unit_header};
+use bitstream::nal::unescaped_fits;
 use bitstream::{Input, Refusal};
 
 // What a unit alone comes to where it is not refused: it is accepted or passed over.
@@ -69,13 +72,14 @@ fn is_passed(unit: &[u8]) -> bool
     }
 }
 
-// The place that a refused unit empties: where its RBSP was refused with 1 or 2, the one that the RBSP's first byte names. No escape stands before that byte.
+// The place that a refused unit empties: where its RBSP was refused with 1, 2 or 4, the one that the RBSP's first byte names. No escape stands before that byte.
 #[tactic(auto, unfolding(crate::specs::Inner::names_damaged, crate::specs::Places::named))]
 fn damaged_place(unit: &[u8], why: Refusal) -> Option<Place>
     ensures some { IfSome result (λ place. (names_damaged unit.now (number why) ≡ true) × (number_of place.kind ≡ get_or unit.now 2 0 / 32) × (place.id ≡ get_or unit.now 2 0 % 32)) }
     ensures none { IfNone result (names_damaged unit.now (number why) ≡ false) }
 {
-    if 2 < u32::from(why) {
+    let number = u32::from(why);
+    if 2 < number && number != 4 {
         return None;
     }
     let &[_, _, first, ..] = unit else {
@@ -112,7 +116,7 @@ fn take_aps(table: &mut Table, unit: &[u8], work: &mut [u8]) -> Result<Taken, Re
     }
 }
 
-// A unit alone: 4; 1; passed over; then as `parse_aps`. One that is refused with 1 or 2 after its header empties the place that its RBSP names.
+// A unit alone: 4; 1; passed over; then as `parse_aps`. One that is refused with 1, 2 or 4 after its header empties the place that its RBSP names.
 pub fn take_unit(table: &mut Table, unit: &[u8], work: &mut [u8]) -> Result<Taken, Refusal>
     ensures answer { unit_answer result ≡ answer_to (alone unit.now (length work.old)) }
     ensures table { table.new ≡ table_after (alone unit.now (length work.old)) table.old }
@@ -142,7 +146,42 @@ fn take_units(table: &mut Table, stream: Input<'_>, work: &mut [u8]) -> Counts
     counts
 }
 
-// A stream: 4; 2; 5; then its units.
+// Whether the RBSP of a unit that is read fits into room bytes.
+fn rbsp_fits(unit: &[u8], room: usize) -> bool
+    ensures { result ≡ leb (read_of (unit_header unit.now) (rbsp_of unit.now)) room }
+{
+    match parse_unit_header(unit) {
+        Ok(_) => {
+            let bytes = &unit[HEADER_BYTES..];
+            if !unescaped_fits(Input { bytes }, LONGEST_RBSP) {
+                return true;
+            }
+            unescaped_fits(Input { bytes }, room)
+        }
+        Err(_) => true,
+    }
+}
+
+// Whether a work buffer of room bytes is enough for the units of a stream whose split holds.
+fn suffices(stream: Input<'_>, room: usize) -> bool
+    requires { splits (split stream.bytes.now) ≡ true }
+    ensures { result ≡ leb (longest (units_of (split stream.entry.bytes.now))) room }
+{
+    if LONGEST_RBSP <= room {
+        return true;
+    }
+    let mut rest = Cursor::new(stream);
+    // The next place is what the step gives; no index is counted.
+    while let Ok(Some(unit)) = rest.next_unit() {
+        if !rbsp_fits(unit.bytes, room) {
+            return false;
+        }
+        rest = unit.rest;
+    }
+    true
+}
+
+// A stream: 4; 2; 5: the work buffer is shorter than the longest RBSP that is read; then its units.
 pub fn take_stream(table: &mut Table, bytes: &[u8], work: &mut [u8]) -> Result<Counts, Refusal>
     ensures answer { stream_answer result ≡ answer_to (stream bytes.now (length work.old)) }
     ensures table { table.new ≡ table_after (stream bytes.now (length work.old)) table.old }
@@ -150,7 +189,7 @@ pub fn take_stream(table: &mut Table, bytes: &[u8], work: &mut [u8]) -> Result<C
 {
     let stream = Input::new(bytes)?;
     Cursor::check_split(stream)?;
-    if work.len() < bytes.len() {
+    if !suffices(stream, work.len()) {
         return Err(Refusal::OutputTooShort);
     }
     Ok(take_units(table, stream, work))

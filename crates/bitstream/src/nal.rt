@@ -103,7 +103,7 @@ fn escape_into(src: Input<'_>, out: &mut [u8]) -> usize
 }
 
 // Whether src with escapes removed fits into room bytes: it is never longer than src.
-fn unescaped_fits(src: Input<'_>, room: usize) -> bool
+pub fn unescaped_fits(src: Input<'_>, room: usize) -> bool
     ensures { result ≡ leb (length (unescape src.entry.bytes.now)) room }
 {
     if src.bytes.len() <= room {

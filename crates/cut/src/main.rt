@@ -1,6 +1,7 @@
 // Reads a stream from standard input and writes the list at a cut after it to standard output; a refusal goes to standard error.
 #![tactic(auto)]
 
+use aps::LONGEST_RBSP;
 use aps_table::list::{LIST_BYTES, write_list};
 use aps_table::places::new_table;
 use aps_table::table::take_stream;
@@ -16,7 +17,7 @@ fn refused(why: Refusal) {
 
 // The list at a cut after the stream, at the start of `out`, and its length: no heap is used.
 fn list_after(stream: &[u8], out: &mut [u8]) -> Result<usize, Refusal> {
-    let mut work = io::large_buffer();
+    let mut work = [0u8; LONGEST_RBSP];
     let mut table = new_table();
     take_stream(&mut table, stream, &mut work)?;
     write_list(&table, out)

@@ -1,4 +1,4 @@
-// The calls of the table, which is 30,292 bytes that the caller keeps.
+// The calls of the table, which is 23,228 bytes that the caller keeps.
 ghost use Rattle.std.specs.Prelude.{◌≡◌, length, [], ◌∷◌};
 ghost use Rattle.std.proofs.lemmas.List.Edits.{sets};
 ghost use Rattle.bitstream.specs.Outcome.{left};

@@ -5,6 +5,7 @@ ghost use Rattle.std.specs.Prelude.{◌≡◌};
 ghost use Rattle.aps_table.specs.Answers.{stream_answer};
 ghost use Rattle.aps_table.specs.Calls.{stream, answer_to};
 
+use aps::LONGEST_RBSP;
 use aps::aps::{ApsHead, ApsKind};
 use aps_table::places::{Table, new_table};
 use aps_table::table::{Counts, lookup_head, take_stream};
@@ -44,9 +45,9 @@ fn print_kind(table: &Table, kind: ApsKind) {
 
 // A header and each filled place, or `refused` and the number; the stream's answer.
 pub fn print_sets(bytes: &[u8]) -> Result<Counts, Refusal>
-    ensures { stream_answer result ≡ answer_to (stream bytes.now 65536) }
+    ensures { stream_answer result ≡ answer_to (stream bytes.now 2048) }
 {
-    let mut work = io::large_buffer();
+    let mut work = [0u8; LONGEST_RBSP];
     let mut table = new_table();
     let answer = take_stream(&mut table, bytes, &mut work);
     match answer {

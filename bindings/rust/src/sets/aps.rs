@@ -21,7 +21,7 @@ fn kind_to_read(first: Option<&u8>) -> Kind {
 }
 
 impl Aps {
-    /// The set of an RBSP, and the bit where reading ended.
+    /// The set of an RBSP, and the bit where reading ended; `InputTooLong` as for `sets::read`.
     pub fn read(rbsp: &[u8]) -> Result<(Aps, usize), Refusal> {
         match kind_to_read(rbsp.first()) {
             Kind::Alf => Alf::read(rbsp).map(|(set, end)| (Aps::Alf(set), end)),
@@ -30,7 +30,7 @@ impl Aps {
         }
     }
 
-    /// The set of a unit, and the bit of its RBSP where reading ended; `work` has at least the unit's length less 2 and then starts with the RBSP.
+    /// The set of a unit, and the bit of its RBSP where reading ended; `work` as for `sets::read_unit`.
     pub fn read_unit(unit: &[u8], work: &mut [u8]) -> Result<(Aps, usize), Refusal> {
         match kind_to_read(unit.get(2)) {
             Kind::Alf => Alf::read_unit(unit, work).map(|(set, end)| (Aps::Alf(set), end)),
@@ -39,7 +39,7 @@ impl Aps {
         }
     }
 
-    /// Writes the set as an RBSP at the start of `out` and gives the length.
+    /// Writes the set as an RBSP at the start of `out` and gives the length; `InputTooLong` as for `sets::write`.
     pub fn write(&self, out: &mut [u8]) -> Result<usize, Refusal> {
         match self {
             Aps::Alf(set) => set.write(out),

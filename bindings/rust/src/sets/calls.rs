@@ -25,7 +25,7 @@ macro_rules! calls {
                 sized(code, end).map(|end| (set, end))
             }
 
-            /// Writes the set as an RBSP at the start of `out` and gives the length.
+            /// Writes the set as an RBSP at the start of `out` and gives the length; `InputTooLong` as for `sets::write`.
             pub fn write(&self, out: &mut [u8]) -> Result<usize, Refusal> {
                 let mut len = 0;
                 // SAFETY: the set has C's layout, and the pointer is a slice's, with its own length, which doesn't overlap it.

@@ -1,10 +1,10 @@
 //! Empty slices, and inputs, outputs and work buffers that are too short.
 
 use crate::bytes::{example, example_list, hex};
-use crate::made::{self, header};
+use crate::made::{self, header, LONGEST_UNIT};
 use kendwyra::escapes::{ebsp_to_rbsp, rbsp_to_ebsp};
 use kendwyra::sets::{nal_header, read, read_unit, rewrite, write, write_unit};
-use kendwyra::{raw, Alf, Aps, Counts, Head, Lmcs, Refusal, Scaling, Table, Taken, UnitHeader};
+use kendwyra::{raw, Alf, Aps, Counts, Head, Lmcs, Refusal, Scaling, Table, Taken, UnitHeader, LONGEST_RBSP};
 
 const END: Refusal = Refusal::UnexpectedEnd;
 const SHORT: Refusal = Refusal::OutputTooShort;
@@ -50,7 +50,7 @@ fn empty_slices_and_a_table() {
         passed_over: 0,
     };
     assert_eq!(table.take_stream(&[], &mut []), Ok(none));
-    table.take_stream(&example(), &mut [0; 17]).unwrap();
+    table.take_stream(&example(), &mut [0; 3]).unwrap();
     assert_eq!(table.write_list(&mut []), Err(SHORT));
 }
 
@@ -81,7 +81,7 @@ fn outputs() {
     into_each_room(&hex("00 00 03 01"), |out| rbsp_to_ebsp(&hex("00 00 01"), out));
     into_each_room(&hex("00 00 01"), |out| ebsp_to_rbsp(&hex("00 00 03 01"), out));
     let mut table = Table::new();
-    table.take_stream(&example(), &mut [0; 17]).unwrap();
+    table.take_stream(&example(), &mut [0; 3]).unwrap();
     into_each_room(&example_list(), |out| table.write_list(out));
 }
 
@@ -93,7 +93,7 @@ fn one_short() {
         Aps::Lmcs(made::lmcs(1)),
         Aps::Scaling(made::scaling(1)),
     ] {
-        let (mut rbsp, mut unit) = ([0; 4096], [0; 6144]);
+        let (mut rbsp, mut unit) = ([0; LONGEST_RBSP], [0; LONGEST_UNIT]);
         let len = write(&set, &mut rbsp).unwrap();
         let unit_len = write_unit(&set, UnitHeader::default(), &mut unit).unwrap();
         let (rbsp, unit) = (&rbsp[..len], &unit[..unit_len]);
@@ -107,20 +107,29 @@ fn one_short() {
         assert_eq!(rewrite(rbsp, &mut out[..len - 1]), Err(SHORT));
         assert_eq!(rbsp_to_ebsp(rbsp, &mut out[..unit_len - 3]), Err(SHORT));
         assert_eq!(ebsp_to_rbsp(&unit[2..], &mut out[..len - 1]), Err(SHORT));
-        assert_eq!(read_unit(unit, &mut out[..unit_len - 3]), Err(SHORT));
-        assert_eq!(Head::read_unit(unit, &mut out[..unit_len - 3]), Err(SHORT));
+        assert_eq!(read_unit(unit, &mut out[..len - 1]), Err(SHORT));
+        assert_eq!(Head::read_unit(unit, &mut out[..len - 1]), Err(SHORT));
         let mut table = Table::new();
-        assert_eq!(table.take_unit(unit, &mut out[..unit_len - 3]), Err(SHORT));
+        assert_eq!(table.take_unit(unit, &mut out[..len - 1]), Err(SHORT));
         let stream = [&[0, 0, 1], unit].concat();
-        assert_eq!(table.take_stream(&stream, &mut vec![0; unit_len + 2]), Err(SHORT));
+        assert_eq!(table.take_stream(&stream, &mut out[..len - 1]), Err(SHORT));
+        assert_eq!(table.list(), Ok(vec![]));
         assert_eq!(out, vec![0xAA; unit_len]);
+        assert_eq!(
+            table
+                .take_stream(&stream, &mut out[..len])
+                .map(|counts| counts.accepted),
+            Ok(1)
+        );
+        assert_eq!(out[..len], *rbsp);
 
         assert_eq!(read(&rbsp[..len - 1]), Err(END));
         assert_eq!(Head::read(&rbsp[..len - 1]), Err(END));
         assert_eq!(rewrite(&rbsp[..len - 1], &mut out), Err(END));
         assert_eq!(read_unit(&unit[..unit_len - 1], &mut out), Err(END));
         assert_eq!(table.take_unit(&unit[..unit_len - 1], &mut out), Err(END));
-        assert_eq!(table.take_unit(unit, &mut out[..unit_len - 2]), Ok(Taken::Accepted));
+        assert_eq!(read_unit(unit, &mut out[..len]), Ok((set, len * 8)));
+        assert_eq!(table.take_unit(unit, &mut out[..len]), Ok(Taken::Accepted));
         assert_eq!(table.write_list(&mut vec![0; unit_len + 3]), Err(SHORT));
         assert_eq!(table.write_list(&mut vec![0; unit_len + 4]), Ok(unit_len + 4));
     }
@@ -156,7 +165,7 @@ fn raw_calls() {
         assert_eq!(end(&[]), (1, 9));
         assert_eq!(rewrite(&[], &mut []), (1, 9));
         for (other, _, _) in &calls {
-            let (mut rbsp, mut out) = ([0; 4096], [0; 4096]);
+            let (mut rbsp, mut out) = ([0; LONGEST_RBSP], [0; LONGEST_RBSP]);
             let len = write(other, &mut rbsp).unwrap();
             assert_eq!(end(&rbsp[..len]), (0, len as u64 * 8));
             assert_eq!(end(&rbsp[..len - 1]), (1, 9));
@@ -166,7 +175,7 @@ fn raw_calls() {
             }
             assert_eq!(rewrite(&rbsp[..len], &mut []), (5, 9));
             assert_eq!(rewrite(&rbsp[..len], &mut out[..len - 1]), (5, 9));
-            assert_eq!(out, [0; 4096]);
+            assert_eq!(out, [0; LONGEST_RBSP]);
             assert_eq!(rewrite(&rbsp[..len], &mut out), (0, len as u64));
             assert_eq!(out, rbsp);
         }
@@ -177,16 +186,18 @@ fn raw_calls() {
 fn work() {
     let unit = hex("00 89 20 42 12");
     let mut table = Table::new();
-    let mut work = [0xAA; 17];
+    let mut work = [0xAA; 4];
     assert_eq!(read_unit(&unit, &mut work[..2]), Err(SHORT));
     assert_eq!(Head::read_unit(&unit, &mut work[..2]), Err(SHORT));
     assert_eq!(Alf::read_unit(&unit, &mut work[..2]), Err(SHORT));
     assert_eq!(Lmcs::read_unit(&unit, &mut work[..2]), Err(SHORT));
     assert_eq!(Scaling::read_unit(&unit, &mut work[..2]), Err(SHORT));
     assert_eq!(table.take_unit(&unit, &mut work[..2]), Err(SHORT));
-    assert_eq!(table.take_stream(&example(), &mut work[..16]), Err(SHORT));
-    assert_eq!(work, [0xAA; 17]);
+    assert_eq!(table.take_stream(&example(), &mut work[..2]), Err(SHORT));
+    assert_eq!(work, [0xAA; 4]);
     assert_eq!(table.list(), Ok(vec![]));
     assert_eq!(table.take_unit(&unit, &mut work[..3]), Ok(Taken::Accepted));
-    assert_eq!(work[..4], hex("20 42 12 AA"));
+    assert_eq!(work[..], hex("20 42 12 AA"));
+    assert!(table.take_stream(&example(), &mut work[..3]).is_ok());
+    assert_eq!(work[..], hex("00 10 12 AA"));
 }

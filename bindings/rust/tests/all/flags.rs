@@ -1,6 +1,6 @@
 //! Flags that are neither 0 nor 1, which only `raw` takes.
 
-use crate::made::{self, header};
+use crate::made::{self, header, LONGEST_UNIT};
 use kendwyra::{raw, Alf, Lmcs, Scaling, UnitHeader};
 use std::mem::{offset_of, MaybeUninit};
 use std::ops::Range;
@@ -74,7 +74,7 @@ fn each_flag<S: Clone>(sets: [S; 2], flags: Vec<Range<usize>>, write: Write<S>, 
     for set in sets {
         let check = |changes: &[(usize, u8)], due: u32| {
             let bytes = with_bytes(&set, changes);
-            let (mut out, mut len) = ([0xAA; 6144], 9);
+            let (mut out, mut len) = ([0xAA; LONGEST_UNIT], 9);
             let (to, room) = (out.as_mut_ptr(), out.len());
             // SAFETY: any bytes are lent as a set, and the array with its length.
             let code = unsafe { write(bytes.as_ptr(), to, room, &mut len) };
@@ -90,7 +90,7 @@ fn each_flag<S: Clone>(sets: [S; 2], flags: Vec<Range<usize>>, write: Write<S>, 
                 let code = unsafe { write_nal(bytes.as_ptr(), header, to, room, &mut len) };
                 assert_eq!((code, len), (due, 9), "{changes:?} {header:?}");
             }
-            assert_eq!(out, [0xAA; 6144]);
+            assert_eq!(out, [0xAA; LONGEST_UNIT]);
         };
         for at in flags.iter().cloned().flatten() {
             for byte in [2, 255] {

@@ -1,6 +1,10 @@
-//! Full sets of each kind, with values that tell the places apart, and headers of units.
+//! Full sets of each kind, with values that tell the places apart, sets and RBSPs of some 2,048 bytes, and headers of units.
 
-use kendwyra::{Alf, Aps, Held, Kind, Lmcs, Scaling, UnitHeader};
+use kendwyra::escapes::rbsp_to_ebsp;
+use kendwyra::{Alf, Aps, Held, Kind, Lmcs, Scaling, UnitHeader, LONGEST_RBSP};
+
+/// No unit of a set is longer: after each two bytes of its RBSP there may be an escape.
+pub const LONGEST_UNIT: usize = 2 + LONGEST_RBSP * 3 / 2;
 
 /// A row of magnitudes up to `most`, and signs for those that are not 0.
 fn row<const W: usize>(at: usize, most: usize) -> ([u32; W], [bool; W]) {
@@ -106,6 +110,70 @@ pub fn scaling(id: u8) -> Scaling {
         }
     }
     d
+}
+
+/// The 28 lists coded, by a DC and steps.
+pub fn stepped(id: u8, dc: i32, mut steps: impl Iterator<Item = i32>) -> Scaling {
+    let mut d = Scaling {
+        aps_adaptation_parameter_set_id: id,
+        aps_chroma_present_flag: true,
+        scaling_list_dc_coef: [dc; 14],
+        ..Scaling::default()
+    };
+    for list in 0..28 {
+        let mut sum = if list > 13 { dc } else { 0 };
+        for i in 0..[4, 16, 64][usize::from(list > 1) + usize::from(list > 7)] {
+            if list < 26 || !in_corner(i) {
+                sum += steps.next().unwrap();
+            }
+            d.scaling_list[list][i] = sum;
+        }
+    }
+    d
+}
+
+/// With so many longer steps `long_lists` has just 2,048 bytes, and 2,049 with one more.
+pub const LONGER_STEPS: usize = 715;
+
+/// The 28 lists coded by steps up and down, so many of 13 bits and then of 11.
+pub fn long_lists(id: u8, longer: usize) -> Scaling {
+    let sizes = std::iter::repeat_n(40, longer).chain(std::iter::repeat(20));
+    stepped(
+        id,
+        0,
+        sizes.zip([1, -1].into_iter().cycle()).map(|(size, sign)| size * sign),
+    )
+}
+
+/// The RBSP of a small set of a kind and an id, followed by one byte again and again, and by 80: in a stream no unit ends in a zero.
+pub fn followed(kind: Kind, id: u8, byte: u8, len: usize) -> Vec<u8> {
+    let small: &[u8] = match kind {
+        Kind::Alf => &[0x00, 0x10],
+        Kind::Lmcs => &[0x20, 0x42, 0x12],
+        Kind::Scaling => &[0x40, 0x7F, 0xFF, 0xE8],
+    };
+    let mut rbsp = vec![byte; len];
+    rbsp[..small.len()].copy_from_slice(small);
+    rbsp[0] += id;
+    if small.len() < len {
+        rbsp[len - 1] = 0x80;
+    }
+    rbsp
+}
+
+/// An RBSP as a unit.
+pub fn unit(header: UnitHeader, rbsp: &[u8]) -> Vec<u8> {
+    let mut unit = vec![0; 2 + rbsp.len() * 3 / 2];
+    let len = rbsp_to_ebsp(rbsp, &mut unit[2..]).unwrap();
+    unit[0] = header.nuh_layer_id;
+    unit[1] = header.nal_unit_type * 8 + header.nuh_temporal_id_plus1;
+    unit.truncate(2 + len);
+    unit
+}
+
+/// Units in the byte stream form.
+pub fn stream(units: &[Vec<u8>]) -> Vec<u8> {
+    units.iter().flat_map(|unit| [&[0, 0, 1], &unit[..]].concat()).collect()
 }
 
 /// A set for each of the 20 places.

@@ -5,6 +5,7 @@ mod bytes;
 mod fields;
 mod flags;
 mod layout;
+mod longest;
 mod made;
 mod marked;
 mod random;

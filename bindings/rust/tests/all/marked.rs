@@ -66,7 +66,7 @@ fn escapes() {
 #[test]
 fn stream_and_list() {
     let mut table = Table::new();
-    let counts = table.take_stream(&example(), &mut [0; 17]);
+    let counts = table.take_stream(&example(), &mut [0; 3]);
     assert_eq!(
         counts,
         Ok(Counts {

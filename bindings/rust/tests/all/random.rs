@@ -1,11 +1,12 @@
-//! Random bytes, the same in each run: whole, and sets that are written with some bits flipped or cut off.
+//! Random bytes, the same in each run: whole, sets that are written with some bits flipped or cut off, and RBSPs of some 2,048 bytes.
 
 use crate::flags::{alf_flags, lmcs_flags, scaling_flags};
-use crate::made::{self, header};
+use crate::made::{self, header, LONGEST_UNIT};
 use kendwyra::escapes::{ebsp_to_rbsp, rbsp_to_ebsp};
 use kendwyra::sets::{nal_header, read, read_unit, rewrite, write_unit};
 use kendwyra::{
-    raw, Alf, Aps, Head, Held, Kind, Lmcs, Refusal, Scaling, Table, Taken, UnitHeader, LIST_BYTES, TABLE_BYTES,
+    raw, Alf, Aps, Head, Held, Kind, Lmcs, Refusal, Scaling, Table, Taken, UnitHeader, LIST_BYTES, LONGEST_RBSP,
+    TABLE_BYTES,
 };
 use std::fmt::Debug;
 use std::mem::MaybeUninit;
@@ -30,8 +31,14 @@ impl Random {
         (0..len).map(|_| (self.number() >> 32) as u8).collect()
     }
 
-    /// Bytes under a first byte that mostly names a kind, or one of these with up to two bits flipped and mostly not cut.
+    /// Bytes under a first byte that mostly names a kind, a small set and what makes some 2,048 bytes of it, or one of these with up to two bits
+    /// flipped and mostly not cut.
     fn changed(&mut self, written: &[Vec<u8>]) -> Vec<u8> {
+        if self.below(8) == 0 {
+            let (kind, id) = (Kind::ALL[self.below(3)], self.below(5) as u8);
+            let len = LONGEST_RBSP - 8 + self.below(16);
+            return made::followed(kind, id, [0x00, 0x03, 0xFF][self.below(3)], len);
+        }
         if self.below(4) == 0 {
             let len = self.below(200);
             let mut bytes = self.bytes(len);
@@ -63,12 +70,13 @@ fn written() -> Vec<Vec<u8>> {
         }),
     ];
     let of = |set: &Aps| {
-        let mut out = vec![0; 4096];
+        let mut out = vec![0; LONGEST_RBSP];
         let len = set.write(&mut out).unwrap();
         out.truncate(len);
         out
     };
-    small.iter().chain(&made::all()).map(of).collect()
+    let longest = Aps::Scaling(made::long_lists(0, made::LONGER_STEPS));
+    small.iter().chain(&made::all()).chain([&longest]).map(of).collect()
 }
 
 /// What a call of one kind gives into a set whose bytes are all 255: its flags are 0 or 1, and a refusal leaves them.
@@ -108,6 +116,7 @@ fn one_kind<S: PartialEq + Debug>(
 fn read_rbsp(rbsp: &[u8], flags: &[Vec<Range<usize>>; 3]) {
     let due = read(rbsp);
     let (from, len) = (rbsp.as_ptr(), rbsp.len());
+    assert_eq!(due == Err(Refusal::InputTooLong), len > LONGEST_RBSP);
     let head = due.as_ref().map(|(set, end)| (set.head(), *end)).map_err(|why| *why);
     assert_eq!(Head::read(rbsp), head);
     // SAFETY: the pointers are those of the slice, with its length, and of a set.
@@ -136,7 +145,7 @@ fn read_rbsp(rbsp: &[u8], flags: &[Vec<Range<usize>>; 3]) {
         );
     }
 
-    let (mut out, mut again) = ([0; 4096], [0; 4096]);
+    let (mut out, mut again) = ([0; LONGEST_RBSP], [0; LONGEST_RBSP]);
     let again_len = rewrite(rbsp, &mut again);
     match due {
         Ok((set, end)) => {
@@ -190,6 +199,17 @@ fn unit(random: &mut Random, written: &[Vec<u8>]) -> Vec<u8> {
     unit
 }
 
+/// The RBSP of a unit that is read: its header is accepted and the RBSP is not too long; else none.
+fn rbsp_read(unit: &[u8]) -> Vec<u8> {
+    if unit.len() < 2 || header_read(unit).is_none() {
+        return vec![];
+    }
+    let mut rbsp = vec![0; unit.len()];
+    let len = ebsp_to_rbsp(&unit[2..], &mut rbsp).unwrap();
+    rbsp.truncate(if len > LONGEST_RBSP { 0 } else { len });
+    rbsp
+}
+
 /// A unit's header where it is read; none: both the table and the calls of a set refuse it or pass it over.
 fn header_read(unit: &[u8]) -> Option<UnitHeader> {
     let read = nal_header(unit).unwrap();
@@ -203,14 +223,28 @@ fn units() {
     let (mut random, written) = (Random(0xFEDC_BA98_7654_3211), written());
     let flags = [alf_flags(), lmcs_flags(), scaling_flags()];
     let mut table = Table::new();
-    let (mut taken, mut emptied, mut headers_refused) = (0, 0, 0);
+    let (mut taken, mut emptied, mut headers_refused, mut too_long) = (0, 0, 0, 0);
     for _ in 0..4_000 {
         let unit = unit(&mut random, &written);
-        let mut works = [[0xAA; 6144]; 4];
+        let mut works = [[0xAA; LONGEST_RBSP]; 4];
         let due = read_unit(&unit, &mut works[0]);
+        let read = rbsp_read(&unit);
+        assert_eq!(works[0][..read.len()], read);
+        assert!(works[0][read.len()..].iter().all(|byte| *byte == 0xAA));
+        assert_eq!(read_unit(&unit, &mut works[1][..read.len()]), due);
+        assert_eq!(works[1], works[0]);
+        if let Some(short) = read.len().checked_sub(1) {
+            works[1].fill(0xAA);
+            assert_eq!(read_unit(&unit, &mut works[1][..short]), Err(Refusal::OutputTooShort));
+            assert_eq!(
+                table.take_unit(&unit, &mut works[1][..short]),
+                Err(Refusal::OutputTooShort)
+            );
+            assert_eq!(works[1], [0xAA; LONGEST_RBSP]);
+        }
         let head = due.as_ref().map(|(set, end)| (set.head(), *end)).map_err(|why| *why);
         assert_eq!(Head::read_unit(&unit, &mut works[1]), head);
-        let (from, len, to, room) = (unit.as_ptr(), unit.len(), works[2].as_mut_ptr(), 6144);
+        let (from, len, to, room) = (unit.as_ptr(), unit.len(), works[2].as_mut_ptr(), LONGEST_RBSP);
         // SAFETY: the pointers are those of the unit and the work buffer, with their lengths, and of a set.
         let ones = into_ones(&flags[0], |set| unsafe {
             raw::aps_alf_parse(from, len, to, room, set, &mut 0)
@@ -254,12 +288,19 @@ fn units() {
                 assert_eq!(why, Refusal::InvalidData);
                 assert_eq!(answer, if is_aps { Err(why) } else { Ok(Taken::PassedOver) });
                 assert_eq!(sets(&table), sets(&before));
-                assert_eq!(works[1], [0xAA; 6144]);
+                assert_eq!(works[1], [0xAA; LONGEST_RBSP]);
             }
             (Err(why), Some(_)) => {
                 assert_eq!(answer, Err(why));
                 let mut due = sets(&before);
-                let damaged = matches!(why, Refusal::UnexpectedEnd | Refusal::InvalidData);
+                if why == Refusal::InputTooLong {
+                    too_long += 1;
+                    assert_eq!(works[1], [0xAA; LONGEST_RBSP]);
+                }
+                let damaged = matches!(
+                    why,
+                    Refusal::UnexpectedEnd | Refusal::InvalidData | Refusal::InputTooLong
+                );
                 if let Some(place) = unit.get(2).and_then(|&first| place(first)).filter(|_| damaged) {
                     emptied += usize::from(due[place].is_ok());
                     due[place] = Err(Refusal::EmptyPlace);
@@ -271,6 +312,7 @@ fn units() {
     assert!(taken > 500, "{taken}");
     assert!(emptied > 50, "{emptied}");
     assert!(headers_refused > 100, "{headers_refused}");
+    assert!(too_long > 50, "{too_long}");
 }
 
 /// The place, by kind and then id, that an RBSP's first byte names.
@@ -291,6 +333,23 @@ fn sets(table: &Table) -> Vec<Result<Held<Aps>, Refusal>> {
     places.map(|(kind, id)| table.lookup(kind, id)).collect()
 }
 
+/// The units of a stream that is taken: after 00 00 01 each, up to 00 00 00, 00 00 01 or zeros at the end.
+fn units_of(stream: &[u8]) -> Vec<&[u8]> {
+    let starts = (3..=stream.len()).filter(|at| stream[at - 3..*at] == [0, 0, 1]);
+    let from = |at| {
+        let rest = &stream[at..];
+        let next = rest.windows(3).position(|bytes| matches!(bytes, [0, 0, 0 | 1]));
+        let unit = &rest[..next.unwrap_or(rest.len())];
+        let zeros = unit.iter().rev().take_while(|byte| **byte == 0).count();
+        if next.is_none() {
+            &unit[..unit.len() - zeros]
+        } else {
+            unit
+        }
+    };
+    starts.map(from).collect()
+}
+
 #[test]
 fn streams() {
     let (mut random, written) = (Random(0x0F1E_2D3C_4B5A_6979), written());
@@ -306,12 +365,25 @@ fn streams() {
             let len = random.below(9);
             stream = [random.bytes(len), stream].concat();
         }
-        let mut work = vec![0xAA; stream.len()];
-        let before = table.clone();
+        let mut work = vec![0xAA; LONGEST_RBSP];
+        let mut before = table.clone();
         match table.take_stream(&stream, &mut work) {
             Ok(counts) => {
                 accepted += counts.accepted;
                 refused += counts.refused;
+                let units = units_of(&stream);
+                assert_eq!(units.len(), counts.accepted + counts.refused + counts.passed_over);
+                let room = units.iter().map(|unit| rbsp_read(unit).len()).max().unwrap_or(0);
+                assert!(work[room..].iter().all(|byte| *byte == 0xAA));
+                if let Some(short) = room.checked_sub(1) {
+                    let (mut work, old) = (vec![0xAA; short], sets(&before));
+                    let answer = before.take_stream(&stream, &mut work);
+                    assert_eq!(answer, Err(Refusal::OutputTooShort));
+                    assert_eq!((work, sets(&before)), (vec![0xAA; short], old));
+                }
+                let mut exact = vec![0xAA; room];
+                assert_eq!(before.take_stream(&stream, &mut exact), Ok(counts));
+                assert_eq!((&exact[..], sets(&before)), (&work[..room], sets(&table)));
             }
             Err(why) => {
                 unread += 1;
@@ -323,7 +395,7 @@ fn streams() {
         let mut second = Table::new();
         match table.list() {
             Ok(list) => {
-                let counts = second.take_stream(&list, &mut [0; LIST_BYTES]).unwrap();
+                let counts = second.take_stream(&list, &mut [0; LONGEST_RBSP]).unwrap();
                 assert_eq!((counts.refused, counts.passed_over), (0, 0));
                 assert_eq!(sets(&second), sets(&table));
                 assert_eq!(second.list(), Ok(list));
@@ -342,7 +414,7 @@ fn streams() {
 
 /// A table's bytes, with each of the 20 sets in its place.
 fn full_table() -> [u8; TABLE_BYTES] {
-    let (mut table, mut unit, mut work) = ([0; TABLE_BYTES], [0; 6144], [0; 6144]);
+    let (mut table, mut unit, mut work) = ([0; TABLE_BYTES], [0; LONGEST_UNIT], [0; LONGEST_RBSP]);
     for Held { header, set } in made::held() {
         let len = set.write_unit(header, &mut unit).unwrap();
         // SAFETY: the pointers are those of arrays, with lengths in them.
@@ -431,7 +503,7 @@ fn tables() {
         let code = unsafe { raw::aps_write_list(&table, out.as_mut_ptr(), out.len(), &mut len) };
         assert!(len as usize <= LIST_BYTES);
         assert!(code == 0 || out.iter().all(|byte| *byte == 0xAA));
-        let (unit, mut work) = (unit(&mut random, &written), [0; 6144]);
+        let (unit, mut work) = (unit(&mut random, &written), [0; LONGEST_RBSP]);
         // SAFETY: as above.
         unsafe { raw::aps_take_unit(&mut table, unit.as_ptr(), unit.len(), work.as_mut_ptr(), work.len()) };
     }
@@ -459,8 +531,9 @@ fn escapes() {
 /// Sets with a random number in a field.
 #[test]
 fn writing() {
-    let (mut random, sets) = (Random(0x1357_9BDF_0246_8ACE), made::all());
-    let (mut taken, mut refused) = (0, 0);
+    let (mut random, mut sets) = (Random(0x1357_9BDF_0246_8ACE), made::all());
+    sets.extend((0..8).map(|id| Aps::Scaling(made::long_lists(id, made::LONGER_STEPS))));
+    let (mut taken, mut refused, mut too_long) = (0, 0, 0);
     for round in 0..3_000 {
         let mut set = sets[random.below(sets.len())].clone();
         let number = random.number() as u32 >> random.below(32);
@@ -491,7 +564,7 @@ fn writing() {
             random.below(56) as u8,
             1 + random.below(7) as u8,
         );
-        let (mut out, mut unit) = ([0xAA; 6144], [0xAA; 6144]);
+        let (mut out, mut unit) = ([0xAA; LONGEST_RBSP], [0xAA; LONGEST_UNIT]);
         match set.write(&mut out) {
             Ok(len) => {
                 taken += 1;
@@ -500,15 +573,22 @@ fn writing() {
                 assert_eq!(again.head(), set.head());
                 let unit_len = write_unit(&set, unit_header, &mut unit).unwrap();
                 assert_eq!(header_read(&unit), Some(unit_header));
-                assert_eq!(read_unit(&unit[..unit_len], &mut [0; 6144]), Ok((again, end)));
+                assert_eq!(read_unit(&unit[..unit_len], &mut [0; LONGEST_RBSP]), Ok((again, end)));
             }
             Err(why) => {
-                refused += 1;
-                assert_eq!(why, Refusal::InvalidData);
+                let long_lists = matches!(&set, Aps::Scaling(set) if !set.scaling_list_copy_mode_flag[0]);
+                assert!(why == Refusal::InvalidData || why == Refusal::InputTooLong && long_lists);
+                *(if why == Refusal::InvalidData {
+                    &mut refused
+                } else {
+                    &mut too_long
+                }) += 1;
                 assert_eq!(write_unit(&set, unit_header, &mut unit), Err(why));
-                assert_eq!((out, unit), ([0xAA; 6144], [0xAA; 6144]));
+                assert_eq!(write_unit(&set, unit_header, &mut []), Err(why));
+                assert_eq!((out, unit), ([0xAA; LONGEST_RBSP], [0xAA; LONGEST_UNIT]));
             }
         }
     }
     assert!(taken > 200 && refused > 200, "{taken} and {refused}");
+    assert!(too_long > 20, "{too_long}");
 }

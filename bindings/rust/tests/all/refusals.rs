@@ -1,10 +1,10 @@
 //! Each refusal by its number.
 
 use crate::bytes::hex;
-use crate::made;
+use crate::made::{self, LONGEST_UNIT};
 use kendwyra::escapes::{ebsp_to_rbsp, rbsp_to_ebsp};
 use kendwyra::sets::{nal_header, read, read_unit, rewrite, write};
-use kendwyra::{Alf, Aps, Head, Kind, Lmcs, Refusal, Scaling, Table, UnitHeader, LONGEST_INPUT};
+use kendwyra::{Alf, Aps, Head, Kind, Lmcs, Refusal, Scaling, Table, UnitHeader, LONGEST_INPUT, LONGEST_RBSP};
 
 #[test]
 fn numbers_and_words() {
@@ -24,7 +24,8 @@ fn each_number() {
     assert_eq!(read(&[]).map_err(Refusal::number), Err(1));
     assert_eq!(read(&hex("24 00")).map_err(Refusal::number), Err(2));
     assert_eq!(read(&hex("60 00")).map_err(Refusal::number), Err(3));
-    assert_eq!(read(&[0; LONGEST_INPUT + 1]).map_err(Refusal::number), Err(4));
+    assert_eq!(read(&[0; LONGEST_RBSP + 1]).map_err(Refusal::number), Err(4));
+    assert_eq!(nal_header(&[0; LONGEST_INPUT + 1]).map_err(Refusal::number), Err(4));
     let set = Aps::Alf(Alf::default());
     assert_eq!(write(&set, &mut [0]).map_err(Refusal::number), Err(5));
     assert_eq!(Table::new().lookup(Kind::Alf, 0).map_err(Refusal::number), Err(6));
@@ -65,7 +66,7 @@ fn units() {
 #[test]
 fn another_kind() {
     for set in made::all() {
-        let (mut rbsp, mut unit, mut work) = ([0; 4096], [0; 6144], [0; 6144]);
+        let (mut rbsp, mut unit, mut work) = ([0; LONGEST_RBSP], [0; LONGEST_UNIT], [0; LONGEST_RBSP]);
         let len = set.write(&mut rbsp).unwrap();
         let unit_len = set.write_unit(UnitHeader::default(), &mut unit).unwrap();
         let (rbsp, unit) = (&rbsp[..len], &unit[..unit_len]);
@@ -111,7 +112,7 @@ fn cut_off() {
         Aps::Lmcs(made::lmcs(0)),
         Aps::Scaling(made::scaling(0)),
     ] {
-        let mut out = [0; 4_000];
+        let mut out = [0; LONGEST_RBSP];
         let len = write(&set, &mut out).unwrap();
         for cut in 0..len {
             assert_eq!(read(&out[..cut]), Err(Refusal::UnexpectedEnd), "{cut} of {len} bytes");
@@ -142,5 +143,9 @@ fn too_long() {
     assert_eq!(rbsp_to_ebsp(long, &mut out), Err(Refusal::InputTooLong));
     assert_eq!(Table::new().take_unit(long, &mut out), Err(Refusal::InputTooLong));
     assert_eq!(Table::new().take_stream(long, &mut out), Err(Refusal::InputTooLong));
-    assert!(Table::new().take_stream(&long[1..], &mut out).is_ok());
+    assert!(nal_header(&long[1..]).is_ok());
+    assert!(ebsp_to_rbsp(&long[1..], &mut out).is_ok());
+    assert!(rbsp_to_ebsp(&long[1..], &mut out).is_ok());
+    assert!(Table::new().take_unit(&long[1..], &mut []).is_ok());
+    assert!(Table::new().take_stream(&long[1..], &mut []).is_ok());
 }

@@ -1,14 +1,15 @@
 //! The table: units taken, looked up and cut.
 
 use crate::bytes::{example, example_list, hex};
-use crate::made::{self, header};
+use crate::made::{self, header, LONGEST_UNIT};
 use kendwyra::sets::{read, write_unit};
 use kendwyra::{
-    raw, Alf, Aps, Counts, Head, Held, Kind, Lmcs, Refusal, Table, Taken, UnitHeader, LIST_BYTES, TABLE_BYTES,
+    raw, Alf, Aps, Counts, Head, Held, Kind, Lmcs, Refusal, Table, Taken, UnitHeader, LIST_BYTES, LONGEST_RBSP,
+    TABLE_BYTES,
 };
 
 fn unit(held: &Held<Aps>) -> Vec<u8> {
-    let mut unit = vec![0; 6144];
+    let mut unit = vec![0; LONGEST_UNIT];
     let len = write_unit(&held.set, held.header, &mut unit).unwrap();
     unit.truncate(len);
     unit
@@ -18,7 +19,10 @@ fn unit(held: &Held<Aps>) -> Vec<u8> {
 fn holding(units: &[Held<Aps>]) -> Table {
     let mut table = Table::new();
     for held in units {
-        assert_eq!(table.take_unit(&unit(held), &mut [0; 6144]), Ok(Taken::Accepted));
+        assert_eq!(
+            table.take_unit(&unit(held), &mut [0; LONGEST_RBSP]),
+            Ok(Taken::Accepted)
+        );
     }
     table
 }
@@ -53,7 +57,7 @@ fn every_place() {
         .collect();
     assert_eq!(list, due);
     let mut second = Table::new();
-    let counts = second.take_stream(&list, &mut [0; LIST_BYTES]);
+    let counts = second.take_stream(&list, &mut [0; LONGEST_RBSP]);
     assert_eq!(
         counts,
         Ok(Counts {
@@ -93,7 +97,10 @@ fn the_last_header_is_held() {
                 header,
                 set: set.clone(),
             };
-            assert_eq!(table.take_unit(&unit(&held), &mut [0; 6144]), Ok(Taken::Accepted));
+            assert_eq!(
+                table.take_unit(&unit(&held), &mut [0; LONGEST_RBSP]),
+                Ok(Taken::Accepted)
+            );
             assert_holds(&table, &[held]);
         }
     }
@@ -113,7 +120,10 @@ fn a_damaged_unit_empties_its_place() {
             assert_eq!(table.lookup(kind, id), Err(Refusal::EmptyPlace));
             let others: Vec<_> = units.iter().filter(|other| *other != held).cloned().collect();
             assert_holds(&table, &others);
-            assert_eq!(table.take_unit(&unit(held), &mut [0; 6144]), Ok(Taken::Accepted));
+            assert_eq!(
+                table.take_unit(&unit(held), &mut [0; LONGEST_RBSP]),
+                Ok(Taken::Accepted)
+            );
             assert_holds(&table, &units);
         }
     }
@@ -131,12 +141,12 @@ fn a_refused_header_empties_no_place() {
         for header in ["80 89", "40 91", "C0 8F", "38 89", "3F 97", "00 88", "37 90"] {
             for rbsp in &rbsps {
                 let refused = [hex(header), rbsp.clone()].concat();
-                let mut work = [0xAA; 6144];
-                for room in [0, 6144] {
+                let mut work = [0xAA; LONGEST_RBSP];
+                for room in [0, LONGEST_RBSP] {
                     let answer = table.take_unit(&refused, &mut work[..room]);
                     assert_eq!(answer, Err(Refusal::InvalidData), "{header}");
                 }
-                assert_eq!(work, [0xAA; 6144]);
+                assert_eq!(work, [0xAA; LONGEST_RBSP]);
             }
         }
     }
@@ -302,11 +312,11 @@ fn an_extended_set_is_held_and_not_listed() {
 fn a_clone_is_a_table_of_its_own() {
     let first = holding(&made::held()[3..4]);
     let mut second = first.clone();
-    second.take_stream(&example(), &mut [0; 17]).unwrap();
+    second.take_stream(&example(), &mut [0; 3]).unwrap();
     assert_eq!(first.lmcs(0), Err(Refusal::EmptyPlace));
     assert_eq!(second.alf(3), first.alf(3));
     let mut third = Table::default();
-    third.take_stream(&example_list(), &mut [0; 17]).unwrap();
+    third.take_stream(&example_list(), &mut [0; 3]).unwrap();
     let heads = [
         (header(18, 0, 1), Alf::default().head()),
         (header(17, 0, 1), Lmcs::default().head()),

@@ -1,16 +1,16 @@
 //! Sets written and read back.
 
-use crate::made::{self, header};
+use crate::made::{self, header, LONGEST_UNIT};
 use kendwyra::sets::{read, read_unit, rewrite, write, write_unit, NAL_TYPE_PREFIX_APS, NAL_TYPE_SUFFIX_APS};
-use kendwyra::{Alf, Aps, Held, Lmcs, Refusal, Scaling, UnitHeader};
+use kendwyra::{Alf, Aps, Held, Lmcs, Refusal, Scaling, UnitHeader, LONGEST_RBSP};
 
 #[test]
 fn read_back() {
     for set in made::all() {
-        let mut rbsp = [0; 4096];
+        let mut rbsp = [0; LONGEST_RBSP];
         let len = write(&set, &mut rbsp).unwrap();
         assert_eq!(read(&rbsp[..len]), Ok((set, len * 8)));
-        let mut again = [0; 4096];
+        let mut again = [0; LONGEST_RBSP];
         assert_eq!(rewrite(&rbsp[..len], &mut again), Ok(len));
         assert_eq!(again, rbsp);
     }
@@ -24,7 +24,7 @@ fn read_back_as_a_unit() {
                 nal_unit_type,
                 ..header
             };
-            let (mut unit, mut work) = ([0; 6144], [0; 6144]);
+            let (mut unit, mut work) = ([0; LONGEST_UNIT], [0; LONGEST_RBSP]);
             let len = write_unit(&set, header, &mut unit).unwrap();
             let second = nal_unit_type * 8 + header.nuh_temporal_id_plus1;
             assert_eq!(unit[..2], [header.nuh_layer_id, second]);
@@ -51,16 +51,19 @@ fn headers() {
             for nuh_layer_id in [0, 1, 54, 55, 56, 63, 64, 128, 255] {
                 for nuh_temporal_id_plus1 in [0, 1, 2, 7, 8, 255] {
                     let header = header(nal_unit_type, nuh_layer_id, nuh_temporal_id_plus1);
-                    let mut unit = [0xAA; 6144];
+                    let mut unit = [0xAA; LONGEST_UNIT];
                     let written = write_unit(&set, header, &mut unit);
                     if !made::is_taken(header) {
                         assert_eq!(written, Err(Refusal::InvalidData), "{header:?}");
-                        assert_eq!(unit, [0xAA; 6144]);
+                        assert_eq!(unit, [0xAA; LONGEST_UNIT]);
                         continue;
                     }
                     let unit = &unit[..written.unwrap()];
                     assert_eq!(unit[..2], [nuh_layer_id, nal_unit_type * 8 + nuh_temporal_id_plus1]);
-                    assert_eq!(read_unit(unit, &mut [0; 6144]).map(|(set, _)| set).as_ref(), Ok(&set));
+                    assert_eq!(
+                        read_unit(unit, &mut [0; LONGEST_RBSP]).map(|(set, _)| set).as_ref(),
+                        Ok(&set)
+                    );
                 }
             }
         }
@@ -72,8 +75,8 @@ fn values_that_are_not_written() {
     let alf = |change: fn(&mut Alf)| {
         let mut set = made::alf(0);
         change(&mut set);
-        assert_eq!(set.write(&mut [0; 4096]), Err(Refusal::InvalidData));
-        assert_eq!(write(&Aps::Alf(set), &mut [0; 4096]), Err(Refusal::InvalidData));
+        assert_eq!(set.write(&mut [0; LONGEST_RBSP]), Err(Refusal::InvalidData));
+        assert_eq!(write(&Aps::Alf(set), &mut [0; LONGEST_RBSP]), Err(Refusal::InvalidData));
     };
     alf(|set| set.aps_adaptation_parameter_set_id = 8);
     alf(|set| set.alf_luma_num_filters_signalled_minus1 = 25);
@@ -83,8 +86,11 @@ fn values_that_are_not_written() {
     let lmcs = |change: fn(&mut Lmcs)| {
         let mut set = made::lmcs(0);
         change(&mut set);
-        assert_eq!(set.write(&mut [0; 4096]), Err(Refusal::InvalidData));
-        assert_eq!(write(&Aps::Lmcs(set), &mut [0; 4096]), Err(Refusal::InvalidData));
+        assert_eq!(set.write(&mut [0; LONGEST_RBSP]), Err(Refusal::InvalidData));
+        assert_eq!(
+            write(&Aps::Lmcs(set), &mut [0; LONGEST_RBSP]),
+            Err(Refusal::InvalidData)
+        );
     };
     lmcs(|set| set.aps_adaptation_parameter_set_id = 4);
     lmcs(|set| set.lmcs_min_bin_idx = u32::MAX);
@@ -92,8 +98,11 @@ fn values_that_are_not_written() {
     let scaling = |change: fn(&mut Scaling)| {
         let mut set = made::scaling(0);
         change(&mut set);
-        assert_eq!(set.write(&mut [0; 4096]), Err(Refusal::InvalidData));
-        assert_eq!(write(&Aps::Scaling(set), &mut [0; 4096]), Err(Refusal::InvalidData));
+        assert_eq!(set.write(&mut [0; LONGEST_RBSP]), Err(Refusal::InvalidData));
+        assert_eq!(
+            write(&Aps::Scaling(set), &mut [0; LONGEST_RBSP]),
+            Err(Refusal::InvalidData)
+        );
     };
     scaling(|set| set.scaling_list[2][1] = i32::MIN);
     scaling(|set| set.scaling_list_dc_coef[12] = 128);
@@ -107,7 +116,7 @@ fn values_that_are_not_written() {
 #[test]
 fn a_copied_list_is_not_looked_at() {
     let changed = |change: fn(&mut Scaling)| {
-        let (mut set, mut out) = (made::scaling(0), [0; 4096]);
+        let (mut set, mut out) = (made::scaling(0), [0; LONGEST_RBSP]);
         change(&mut set);
         set.write(&mut out).map(|len| out[..len].to_vec())
     };

@@ -1,5 +1,4 @@
 -- `write_nal`: header and length are judged, then the escaped bytes stand after the header's two, if there is room for both.
-use Rattle.std.proofs.Common.{rules, Err}
 use mathlib.Core.Path.{◌≡◌, sym, ◌∙◌}
 use mathlib.Core.Bool.{true}
 use native.Mathlib.Omega.{arith}
@@ -19,18 +18,15 @@ returns-then-not-is_aps c =
     let a = c.args in
     let r = unit-header a.out.now a.rbsp.now a.header (sym c.is_aps.ensures ∙ c.if-not-is_aps.true) in record { answer = r.0; bytes = r.1 }
 
-pub returns-in_err-input : goal.returns-in_err-input
-returns-in_err-input c =
+pub returns-then-rbsp-gt-LONGEST_RBSP : goal.returns-then-rbsp-gt-LONGEST_RBSP
+returns-then-rbsp-gt-LONGEST_RBSP c =
     let a = c.args in
-    let k = c.in_err-input.ensures.err in
-    let e : c.from_residual.result ≡ Err c.in_err-input.field-0.0 = search rules in
-    let r = unit-long a.out.now a.rbsp.now a.header (judged (goal.at.returns-in_err-input c).Else-not-is_aps) k.1 in
-    rw (e, k.0) (record { answer = r.0; bytes = r.1 })
+    let r = unit-long a.out.now a.rbsp.now a.header (judged (goal.at.returns-then-rbsp-gt-LONGEST_RBSP c).Else-not-is_aps) (omega arith) in record { answer = r.0; bytes = r.1 }
 
 pub returns-then-out-lt2 : goal.returns-then-out-lt2
 returns-then-out-lt2 c =
     let a = c.args in
-    let r = answered-as a.out.now (unit-due a.out.now a.rbsp.now a.header (judged (goal.at.returns-then-out-lt2 c).Else-not-is_aps) c.in_ok-input.ensures.short) (unit-short a.out.now a.rbsp.now a.header (omega arith)) in record { answer = r.0; bytes = r.1 }
+    let r = answered-as a.out.now (unit-due a.out.now a.rbsp.now a.header (judged (goal.at.returns-then-out-lt2 c).Else-not-is_aps) (omega arith)) (unit-short a.out.now a.rbsp.now a.header (omega arith)) in record { answer = r.0; bytes = r.1 }
 
 pub overflow_mul-out : goal.overflow_mul-out
 overflow_mul-out c =
@@ -45,17 +41,17 @@ overflow_add-out c =
 pub overflow_add-result : goal.overflow_add-result
 overflow_add-result c =
     let a = c.args in
-    omega (arith, unit-within a.out.now a.rbsp.now a.header (omega arith) c.in_ok-input.ensures.short _ _ (rw c.in_ok-input.ensures.ok at c.in_ok-n.ensures.answer), c.well_formed)
+    omega (arith, unit-within a.out.now a.rbsp.now a.header (omega arith) (omega arith) _ _ c.in_ok-n.ensures.answer, c.well_formed)
 
 pub returns : goal.returns
 returns c =
     let a = c.args in
-    let r = answered-as a.out.now (unit-due a.out.now a.rbsp.now a.header (judged (goal.at.returns c).Else-not-is_aps) c.in_ok-input.ensures.short)
-    (unit-put a.out.now a.rbsp.now a.header (omega arith) c.in_ok-input.ensures.short _ _ (rw c.in_ok-input.ensures.ok at c.in_ok-n.ensures.answer)) in record { answer = r.0; bytes = r.1 }
+    let r = answered-as a.out.now (unit-due a.out.now a.rbsp.now a.header (judged (goal.at.returns c).Else-not-is_aps) (omega arith))
+    (unit-put a.out.now a.rbsp.now a.header (omega arith) (omega arith) _ _ c.in_ok-n.ensures.answer) in record { answer = r.0; bytes = r.1 }
 
 pub returns-in_err-n : goal.returns-in_err-n
 returns-in_err-n c =
     let a = c.args in
-    let r = answer-exit c.args.out.now _ _ c.from_residual-in_err-n.ensures.1
-    (answered-as a.out.now (unit-due a.out.now a.rbsp.now a.header (judged (goal.at.returns-in_err-n c).Else-not-is_aps) c.in_ok-input.ensures.short)
-    (unit-refused a.out.now a.rbsp.now a.header (omega arith) c.in_ok-input.ensures.short _ _ (rw c.in_ok-input.ensures.ok at c.in_err-n.ensures.answer) (rw c.in_ok-input.ensures.ok at c.rbsp_to_ebsp.ensures.bytes))) in record { answer = r.0; bytes = r.1 }
+    let r = answer-exit c.args.out.now _ _ c.from_residual.ensures.1
+    (answered-as a.out.now (unit-due a.out.now a.rbsp.now a.header (judged (goal.at.returns-in_err-n c).Else-not-is_aps) (omega arith))
+    (unit-refused a.out.now a.rbsp.now a.header (omega arith) (omega arith) _ _ c.in_err-n.ensures.answer c.rbsp_to_ebsp.ensures.bytes)) in record { answer = r.0; bytes = r.1 }

@@ -2,14 +2,14 @@
 use Rattle.aps.specs.ApsSyntax.{from_aps}
 use Rattle.aps.proofs.write.write_rbsp.Goals as goal
 
-pub returns-in-Alf : goal.returns-in-Alf
+pub returns-in-Alf-clause-bytes : goal.returns-in-Alf-clause-bytes
 unfolding from_aps
-returns-in-Alf c = c.put_rbsp.ensures c.args.set.now (rw c.in-Alf.is)
+returns-in-Alf-clause-bytes c = c.put_rbsp.ensures.bytes c.args.set.now (rw c.in-Alf.is)
 
-pub returns-in-Lmcs : goal.returns-in-Lmcs
+pub returns-in-Lmcs-clause-bytes : goal.returns-in-Lmcs-clause-bytes
 unfolding from_aps
-returns-in-Lmcs c = c.put_rbsp-in-Lmcs.ensures c.args.set.now (rw c.in-Lmcs.is)
+returns-in-Lmcs-clause-bytes c = c.put_rbsp-in-Lmcs.ensures.bytes c.args.set.now (rw c.in-Lmcs.is)
 
-pub returns-in-Scaling : goal.returns-in-Scaling
+pub returns-in-Scaling-clause-bytes : goal.returns-in-Scaling-clause-bytes
 unfolding from_aps
-returns-in-Scaling c = c.put_rbsp-in-Scaling.ensures c.args.set.now (rw c.in-Scaling.is)
+returns-in-Scaling-clause-bytes c = c.put_rbsp-in-Scaling.ensures.bytes c.args.set.now (rw c.in-Scaling.is)

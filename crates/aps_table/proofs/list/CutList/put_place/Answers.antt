@@ -1,5 +1,5 @@
 -- `put_place`: the place's own set, if it holds one, then its extension flag.
-use mathlib.Core.Path.{sym, ap, ◌∙◌}
+use mathlib.Core.Path.{refl, sym, ap, ◌∙◌}
 use native.Mathlib.Omega.{arith}
 use Prim.Native.Nat.{◌/◌}
 use lib.ListN.{length, length-take}
@@ -28,13 +28,12 @@ put_unit-requires c =
     let w = place-few c.args.table.now _ (number_of p.kind) p.id (names-of p.kind p.id p.named) c.rbsp.ensures in
     let l = length-take (c.in-Some.own.set.end / 8) c.rbsp.result.now in
     let o = c.in-Some.ensures in
-    let (s, m, g) = held-some c.args.table.now _ _ _ o.held-is in
-    (omega (arith, c.requires, w.0, l), (omega (arith, w.1, l), rw o.header-is g))
+    (omega (arith, c.requires, w.0, l), (omega (arith, w.1, l), rw o.header-is (held-some c.args.table.now _ _ _ o.held-is).header))
 
 pub returns : goal.returns
 returns c =
     let p = c.args.place in
     let o = c.in-Some.ensures in
     let x = ap (λ h. h.aps_extension_flag) (sym o.is) ∙ c.if-reading.false in
-    let w = held_plain _ _ _ o.read o.held-is x (place-rest c.args.table.now (number_of p.kind) p.id c.fits-table) in
+    let w = held_plain _ _ _ o.read o.held-is x (place-rest c.args.table.now (number_of p.kind) p.id c.fits-table) (omega (arith, (place-few c.args.table.now _ (number_of p.kind) p.id (names-of p.kind p.id p.named) refl).1)) in
     rw (c.rbsp.ensures, o.header-is) at c.put_unit.ensures ∙ ap (joined (so_far c.args.self.now)) (sym w)
