@@ -1100,6 +1100,87 @@ static void write_headers(void)
     }
 }
 
+/* ---- marks */
+
+/* A table of a full set and a small one, each number's its own. */
+static uint8_t *a_table(int number)
+{
+    const uint8_t small[4] = {(uint8_t)number, 0x89, (uint8_t)number, 0x10};
+    uint8_t *table = lend(APS_TABLE_BYTES), *work = lend(APS_LONGEST_RBSP);
+
+    aps_table_new(table);
+    check("a full set", aps_take_unit(table, units[number % 3], unit_len[number % 3], work, APS_LONGEST_RBSP), 0);
+    check("a small one", aps_take_unit(table, small, sizeof small, work, APS_LONGEST_RBSP), 0);
+    free(work);
+    return table;
+}
+
+/* A mark set; the table stays, and for a refusal the marks. */
+static void set_mark(const uint8_t *table, uint8_t *marks, int mark)
+{
+    uint8_t *lent = lend_copy(table, APS_TABLE_BYTES), *before = lend_copy(marks, APS_MARKS_BYTES);
+    uint32_t code = aps_set_mark(lent, marks, (uint8_t)mark);
+
+    check("a mark", code, mark < APS_MARKS ? 0 : APS_INVALID_DATA);
+    check("a table that stays", same(lent, table, APS_TABLE_BYTES), 1);
+    check("marks that stay", code == 0 || same(marks, before, APS_MARKS_BYTES), 1);
+    free(lent);
+    free(before);
+}
+
+/* Back to a mark: what it kept, or null if it was never set. The marks stay, and for a refusal the table. */
+static void go_back(const uint8_t *marks, int mark, const uint8_t *kept)
+{
+    uint8_t *table = lend(APS_TABLE_BYTES), *lent = lend_copy(marks, APS_MARKS_BYTES);
+    uint32_t code = aps_go_back(table, lent, (uint8_t)mark);
+
+    check("back", code, mark >= APS_MARKS ? APS_INVALID_DATA : kept ? 0 : APS_MARK_NOT_SET);
+    if (code) {
+        check("a table untouched", untouched(table, 0, APS_TABLE_BYTES), 1);
+    } else {
+        check("the table kept", kept && same(table, kept, APS_TABLE_BYTES), 1);
+    }
+    check("marks left as they are", same(lent, marks, APS_MARKS_BYTES), 1);
+    free(table);
+    free(lent);
+}
+
+/* Each mark never set, set, set again and not there. */
+static void each_mark(void)
+{
+    uint8_t *marks = lend(APS_MARKS_BYTES), *tables[APS_MARKS], *kept[256] = {NULL};
+
+    aps_marks_new(marks);
+    for (int mark = 0; mark < APS_MARKS; mark++) {
+        tables[mark] = a_table(mark);
+    }
+    for (int mark = 0; mark < 256; mark++) {
+        go_back(marks, mark, NULL);
+    }
+    for (int again = 0; again < 3; again++) {
+        for (int mark = 255; mark >= 0; mark--) {
+            uint8_t *table = tables[(mark + 3 * again) % APS_MARKS];
+
+            set_mark(table, marks, mark);
+            if (mark < APS_MARKS) {
+                kept[mark] = table;
+                for (int other = 0; other <= APS_MARKS; other++) {
+                    go_back(marks, other, kept[other]);
+                }
+            }
+        }
+    }
+    for (int mark = 0; mark < 256; mark++) {
+        go_back(marks, mark, kept[mark]);
+    }
+    aps_marks_new(marks);
+    for (int mark = 0; mark < APS_MARKS; mark++) {
+        go_back(marks, mark, NULL);
+        free(tables[mark]);
+    }
+    free(marks);
+}
+
 /* ---- random bytes */
 
 static uint64_t seed = UINT64_C(0x123456789ABCDEF1);
@@ -1304,6 +1385,38 @@ static void random_table(void)
     free(table);
 }
 
+/* Marks that were never set and then any bytes as marks; one of them set to any bytes as a table. */
+static void random_marks(void)
+{
+    uint8_t *marks = lend(APS_MARKS_BYTES), *before, *table = lend(APS_TABLE_BYTES);
+    size_t from = below(APS_MARKS_BYTES), len;
+    int set = (int)below(APS_MARKS);
+
+    aps_marks_new(marks);
+    randomly(marks + from, APS_MARKS_BYTES - from);
+    before = lend_copy(marks, APS_MARKS_BYTES);
+    for (int mark = 0; mark < 256; mark++) {
+        uint32_t code = aps_go_back(table, marks, (uint8_t)mark);
+
+        if (code == 0) {
+            check("a mark there", mark < APS_MARKS, 1);
+            look_up_all(table);
+            free(write_list(table, &len));
+            memset(table, UNTOUCHED, APS_TABLE_BYTES);
+        } else {
+            check("never set or not there", code, mark < APS_MARKS ? APS_MARK_NOT_SET : APS_INVALID_DATA);
+            check("a table untouched", untouched(table, 0, APS_TABLE_BYTES), 1);
+        }
+    }
+    check("marks that stay", same(marks, before, APS_MARKS_BYTES), 1);
+    randomly(table, APS_TABLE_BYTES);
+    set_mark(table, marks, set);
+    go_back(marks, set, table);
+    free(marks);
+    free(before);
+    free(table);
+}
+
 /* A struct of random bytes, or a full one with one, its flags mostly 0 or 1: refused, or written and read again. */
 static void random_set(const calls *k, const void *full_set)
 {
@@ -1367,6 +1480,7 @@ static void at_random(long rounds)
         }
         if (i % 16 == 0) {
             random_table();
+            random_marks();
         }
     }
     check("some taken", taken > rounds / 4, 1);
@@ -1388,6 +1502,7 @@ int main(int argc, char **argv)
     longest_sets();
     read_headers();
     write_headers();
+    each_mark();
     at_random(argc > 1 ? atol(argv[1]) : 2000);
     if (failures == 0) {
         puts("every argument is answered as the header says");

@@ -1,4 +1,5 @@
-/* The README's example from C: a stream is taken, its sets are looked up, cut and read back; and arguments that are refused. */
+/* The README's example from C: a stream is taken, its sets are looked up, cut and read back; a mark is set and gone back
+ * to; and arguments that are refused. */
 #include "kendwyra.h"
 
 #include <stdio.h>
@@ -19,6 +20,7 @@ static const uint8_t list[] = {0, 0, 0, 1, 0x00, 0x91, 0x00, 0x10, 0, 0, 0, 1, 0
 
 static uint8_t table[APS_TABLE_BYTES];
 static uint8_t second[APS_TABLE_BYTES];
+static uint8_t marks[APS_MARKS_BYTES];
 static uint8_t work[APS_LONGEST_RBSP];
 static uint8_t out[APS_LIST_BYTES];
 static aps_alf alf;
@@ -62,6 +64,27 @@ static void sets_in_force(void)
     check("type again", header.nal_unit_type, 17);
     check("ALF 0 again", aps_alf_lookup(second, 0, &alf, &header), 0);
     check("its type again", header.nal_unit_type, 18);
+}
+
+/* A mark, a unit of LMCS 0 after it, and the list as it was. */
+static void a_mark(void)
+{
+    uint64_t counts[3], len[1];
+    aps_unit_header header;
+
+    aps_table_new(table);
+    aps_marks_new(marks);
+    check("stream", aps_take_stream(table, stream, sizeof stream, work, sizeof work, counts), 0);
+    check("mark 7", aps_set_mark(table, marks, 7), 0);
+    check("a unit", aps_take_unit(table, (const uint8_t[]){5, 0x92, 0x20, 0x42, 0x12}, 5, work, sizeof work), 0);
+    check("its layer", aps_lmcs_lookup(table, 0, &lmcs, &header) == 0 && header.nuh_layer_id == 5, 1);
+    check("back", aps_go_back(table, marks, 7), 0);
+    check("the layer before", aps_lmcs_lookup(table, 0, &lmcs, &header) == 0 && header.nuh_layer_id == 0, 1);
+    check("its list", aps_write_list(table, out, sizeof out, len), 0);
+    check("as before", len[0] == sizeof list && memcmp(out, list, sizeof list) == 0, 1);
+    check("never set", aps_go_back(table, marks, 0), APS_MARK_NOT_SET);
+    check("no such mark", aps_set_mark(table, marks, 8), APS_INVALID_DATA);
+    check("to go back to", aps_go_back(table, marks, 8), APS_INVALID_DATA);
 }
 
 static void one_set(void)
@@ -152,6 +175,7 @@ static void refused(void)
 int main(void)
 {
     sets_in_force();
+    a_mark();
     one_set();
     longest_rbsp();
     refused();

@@ -1,4 +1,4 @@
-/* H.266 adaptation parameter sets: sets read and written, the table of those in force, and the list at a cut.
+/* H.266 adaptation parameter sets: sets read and written, the table of those in force, its marks, and the list at a cut.
  *
  * Every call answers 0 or a refusal's number. A refusal changes nothing but what is said beside it; after 0, bytes of
  * an output past those written stay as they were. No bytes, numbers or lengths make a call reach past what it is given.
@@ -17,11 +17,12 @@ extern "C" {
 /* Refusals. */
 enum {
     APS_UNEXPECTED_END = 1,   /* a unit under 2 bytes; an RBSP that ends before its set does: cut off */
-    APS_INVALID_DATA = 2,     /* a wrong header, kind, id, flag, range, stop bit, padding or stream split; no place */
+    APS_INVALID_DATA = 2,     /* a wrong header, kind, id, flag, range, stop bit, padding or stream split; no place or mark */
     APS_UNSUPPORTED = 3,      /* a kind 3 to 7; extension flag 1 to write */
     APS_INPUT_TOO_LONG = 4,   /* an input over 65,536 bytes; a set's RBSP over 2,048, read or written */
     APS_OUTPUT_TOO_SHORT = 5, /* a work buffer or an output that is too short */
-    APS_EMPTY_PLACE = 6       /* the lookup of an empty place */
+    APS_EMPTY_PLACE = 6,      /* the lookup of an empty place */
+    APS_MARK_NOT_SET = 14     /* going back to a mark that was never set */
 };
 
 /* What aps_take_unit answers for a unit of another type than 17 or 18. */
@@ -32,6 +33,8 @@ enum { APS_ALF = 0, APS_LMCS = 1, APS_SCALING = 2 };
 
 enum {
     APS_TABLE_BYTES = 23228,   /* a table, which the caller keeps */
+    APS_MARKS = 8,             /* marks, 0 to 7 */
+    APS_MARKS_BYTES = 185832,  /* the marks, which the caller keeps beside the table */
     APS_LIST_BYTES = 34900,    /* no list is longer */
     APS_LONGEST_INPUT = 65536, /* the longest stream or unit, and the longest input of the escapes' calls */
     APS_LONGEST_RBSP = 2048    /* the longest RBSP of a set; a work buffer of so many bytes always suffices */
@@ -139,6 +142,15 @@ uint32_t aps_scaling_lookup(const uint8_t table[APS_TABLE_BYTES], uint8_t id, ap
 /* The list at a cut, and its length: every set held, as a unit of its own header after 00 00 00 01, kind rising, then id.
  * 3; 5. */
 uint32_t aps_write_list(const uint8_t table[APS_TABLE_BYTES], uint8_t *out, size_t room, uint64_t len[1]);
+
+/* No mark is set, whatever the bytes were. */
+void aps_marks_new(uint8_t marks[APS_MARKS_BYTES]);
+
+/* All places of the table, with their headers, kept in a mark instead of what it kept before. 2: there is no such mark. */
+uint32_t aps_set_mark(const uint8_t table[APS_TABLE_BYTES], uint8_t marks[APS_MARKS_BYTES], uint8_t mark);
+
+/* All places of the table as they were when the mark was last set; the marks stay. 2; 14: it was never set. */
+uint32_t aps_go_back(uint8_t table[APS_TABLE_BYTES], const uint8_t marks[APS_MARKS_BYTES], uint8_t mark);
 
 /* ---- one set */
 

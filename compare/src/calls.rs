@@ -1,6 +1,7 @@
 //! The crate's safe calls and the Rust's on the same inputs: every answer compared, then the times of both.
 
 mod escapes;
+mod marks;
 mod record;
 mod sets;
 mod table;
@@ -27,6 +28,7 @@ pub fn compare() -> Vec<Row> {
     let mut rows = sets::rows();
     rows.extend(escapes::rows());
     rows.extend(table::rows());
+    rows.extend(marks::rows());
     rows
 }
 

@@ -1,5 +1,6 @@
 //! The proved library's calls.
 
+pub mod marks;
 pub mod sets;
 pub mod structs;
 pub mod table;

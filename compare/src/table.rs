@@ -1,8 +1,9 @@
 //! A table and a plain model of it get the same calls: every short stream, units and streams around the limits of length, and random
-//! sequences of calls with lookups and cuts in between.
+//! sequences of calls with marks, returns, lookups and cuts in between.
 
 mod long;
 mod make;
+mod marks;
 mod sequences;
 mod streams;
 
@@ -11,6 +12,7 @@ use crate::expected::table::names;
 use crate::library::sets::Lent;
 use crate::library::table::Table;
 use crate::tally::Tally;
+use marks::Marks;
 
 pub fn compare() -> Vec<Tally> {
     let mut named = Named::new("streams");
@@ -36,20 +38,22 @@ impl Named {
     }
 }
 
-/// A table of the library's, and what it must be.
+/// A table of the library's, and what it must be, with marks of its own.
 #[derive(Clone)]
 struct Both {
     library: Table,
     expected: expected::table::Table,
+    marks: Marks,
 }
 
 /// The calls, each with the number of the sequence that it belongs to, or 0.
 impl Both {
-    /// A new table, in memory that held other bytes.
-    fn new(before: &[u8]) -> Self {
+    /// A new table and its marks, in memory that held other bytes.
+    fn new(before: &[u8], marks: Marks) -> Self {
         Both {
             library: Table::new(before),
             expected: expected::table::Table::new(),
+            marks,
         }
     }
 

@@ -2,13 +2,13 @@
 
 use std::fmt;
 
-/// A refusal; it leaves outputs and tables as they were, but for a unit whose RBSP is damaged or too long (`Table::take_unit`).
+/// A refusal; it leaves outputs, tables and marks as they were, but for a unit whose RBSP is damaged or too long (`Table::take_unit`).
 #[derive(Debug, Clone, Copy, PartialEq, Eq, Hash)]
 #[repr(u32)]
 pub enum Refusal {
     /// A unit under 2 bytes, or an RBSP that ends before its set does: cut off.
     UnexpectedEnd = 1,
-    /// A wrong unit header, kind, id, range, stop bit, padding, stream split or value, or an id that names no place.
+    /// A wrong unit header, kind, id, range, stop bit, padding, stream split or value, an id that names no place, or a mark above 7.
     InvalidData = 2,
     /// A kind that has no syntax yet, or extension flag 1 to write.
     Unsupported = 3,
@@ -18,10 +18,12 @@ pub enum Refusal {
     OutputTooShort = 5,
     /// The lookup of an empty place.
     EmptyPlace = 6,
+    /// Going back to a mark that was never set.
+    MarkNotSet = 14,
 }
 
 impl Refusal {
-    /// Its number, 1 to 6.
+    /// Its number, 1 to 6 or 14.
     pub const fn number(self) -> u32 {
         self as u32
     }
@@ -35,6 +37,7 @@ impl Refusal {
             4 => Some(Refusal::InputTooLong),
             5 => Some(Refusal::OutputTooShort),
             6 => Some(Refusal::EmptyPlace),
+            14 => Some(Refusal::MarkNotSet),
             _ => None,
         }
     }
@@ -44,11 +47,14 @@ impl fmt::Display for Refusal {
     fn fmt(&self, f: &mut fmt::Formatter<'_>) -> fmt::Result {
         f.write_str(match self {
             Refusal::UnexpectedEnd => "the bytes end inside the header or before the set does",
-            Refusal::InvalidData => "a unit header, kind, id, value, stop bit, padding, stream split or place is wrong",
+            Refusal::InvalidData => {
+                "a unit header, kind, id, value, stop bit, padding, stream split, place or mark is wrong"
+            }
             Refusal::Unsupported => "the kind has no syntax yet, or the set to write has extension flag 1",
             Refusal::InputTooLong => "the input is over 65,536 bytes, or the set's RBSP over 2,048",
             Refusal::OutputTooShort => "the output or the work buffer is too short",
             Refusal::EmptyPlace => "no set is held for this kind and id",
+            Refusal::MarkNotSet => "the mark to go back to was never set",
         })
     }
 }

@@ -4,7 +4,7 @@
 //! the library reads and writes where they are.
 //!
 //! ```
-//! use kendwyra::{Kind, Refusal, Table, LONGEST_RBSP};
+//! use kendwyra::{Kind, Marks, Refusal, Table, LONGEST_RBSP};
 //!
 //! // An LMCS set in a unit of type 17, then an ALF set in one of type 18.
 //! let stream = [0, 0, 0, 1, 0x00, 0x89, 0x20, 0x42, 0x12, 0, 0, 0, 1, 0x00, 0x91, 0x00, 0x10];
@@ -24,6 +24,13 @@
 //! let mut second = Table::new();
 //! second.take_stream(&list, &mut work)?;
 //! assert_eq!(second.lmcs(0)?, held);
+//!
+//! // A mark to come back to.
+//! let mut marks = Marks::new();
+//! table.set_mark(&mut marks, 0)?;
+//! table.take_unit(&[0x00, 0x89, 0x03, 0x10], &mut work)?;
+//! table.go_back(&marks, 0)?;
+//! assert_eq!(table.list()?, list);
 //! # Ok::<(), Refusal>(())
 //! ```
 
@@ -31,16 +38,24 @@
 
 pub mod error;
 pub mod escapes;
+pub mod marks;
 pub mod raw;
 pub mod sets;
 pub mod table;
 
 pub use error::Refusal;
+pub use marks::Marks;
 pub use sets::{Alf, Aps, Head, Kind, Lmcs, Scaling, UnitHeader};
 pub use table::{Counts, Held, Table, Taken};
 
 /// Bytes of a table.
 pub const TABLE_BYTES: usize = 23_228;
+
+/// How many marks a table has: 0 to 7.
+pub const MARKS: u8 = 8;
+
+/// Bytes of its marks.
+pub const MARKS_BYTES: usize = 185_832;
 
 /// No list at a cut is longer, in bytes.
 pub const LIST_BYTES: usize = 34_900;

@@ -5,10 +5,10 @@
 //!
 //! For each call: a pointer and its length are those of memory that is readable, or writable where something is written, and that overlaps
 //! nothing else that is lent. A pointer to a set is that of memory as large and as aligned as the set, readable or writable too; a set that is
-//! written out may be any bytes, flags other than 0 and 1 with them. Any bytes are some table.
+//! written out may be any bytes, flags other than 0 and 1 with them. Any bytes are some table, and any are some marks.
 
 use crate::sets::{Alf, Head, Lmcs, Scaling, UnitHeader};
-use crate::TABLE_BYTES;
+use crate::{MARKS_BYTES, TABLE_BYTES};
 
 /// The code of a unit alone that is neither taken nor refused.
 pub const PASSED_OVER: u32 = 256;
@@ -150,4 +150,13 @@ extern "C" {
 
     /// The list at a cut.
     pub fn aps_write_list(table: &[u8; TABLE_BYTES], out: *mut u8, room: usize, len: &mut u64) -> u32;
+
+    /// No mark is set.
+    pub fn aps_marks_new(marks: &mut [u8; MARKS_BYTES]);
+
+    /// All places of the table kept in a mark.
+    pub fn aps_set_mark(table: &[u8; TABLE_BYTES], marks: &mut [u8; MARKS_BYTES], mark: u8) -> u32;
+
+    /// All places of the table as they were when the mark was last set.
+    pub fn aps_go_back(table: &mut [u8; TABLE_BYTES], marks: &[u8; MARKS_BYTES], mark: u8) -> u32;
 }

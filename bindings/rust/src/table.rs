@@ -1,6 +1,7 @@
 //! The table of the sets in force.
 
 use crate::error::{answer, sized, Refusal};
+use crate::marks::Marks;
 use crate::sets::{Alf, Aps, Head, Kind, Lmcs, Scaling, UnitHeader};
 use crate::{raw, LIST_BYTES, TABLE_BYTES};
 use std::fmt;
@@ -141,6 +142,18 @@ impl Table {
         let len = self.write_list(&mut out)?;
         out.truncate(len);
         Ok(out)
+    }
+
+    /// Keeps all 20 places, with their headers, in a mark from 0 to 7, instead of what it kept before.
+    pub fn set_mark(&self, marks: &mut Marks, mark: u8) -> Result<(), Refusal> {
+        // SAFETY: the boxes are a whole table and whole marks.
+        answer(unsafe { raw::aps_set_mark(&self.0, &mut marks.0, mark) })
+    }
+
+    /// Makes all 20 places what they were when the mark was last set.
+    pub fn go_back(&mut self, marks: &Marks, mark: u8) -> Result<(), Refusal> {
+        // SAFETY: as for `set_mark`.
+        answer(unsafe { raw::aps_go_back(&mut self.0, &marks.0, mark) })
     }
 }
 

@@ -40,7 +40,7 @@ fn unit(random: &mut Random, set: &VvcAps, extension: bool) -> Vec<u8> {
 }
 
 /// A set for each of the 20 places; the one at `extension` has that flag.
-fn filling(random: &mut Random, style: Style, extension: Option<usize>) -> Vec<u8> {
+pub(super) fn filling(random: &mut Random, style: Style, extension: Option<usize>) -> Vec<u8> {
     let units = names().into_iter().enumerate();
     units
         .flat_map(|(i, name)| {
@@ -51,15 +51,15 @@ fn filling(random: &mut Random, style: Style, extension: Option<usize>) -> Vec<u
 }
 
 /// A table of the crate's, and what it must be.
-struct Both {
-    ours: Table,
-    model: Model,
+pub(super) struct Both {
+    pub ours: Table,
+    pub model: Model,
     /// What stands in work buffers before a call.
     filler: Vec<u8>,
 }
 
 impl Both {
-    fn new() -> Self {
+    pub fn new() -> Self {
         Both {
             ours: Table::new(),
             model: Model::new(),
@@ -82,7 +82,7 @@ impl Both {
         }
     }
 
-    fn places(&self) -> (Vec<Held>, Vec<Held>) {
+    pub fn places(&self) -> (Vec<Held>, Vec<Held>) {
         let ours = |name| looked_up(&self.ours, name);
         let model = |name| modelled(&self.model, name);
         (
@@ -104,7 +104,7 @@ impl Both {
 }
 
 /// The header and the fields of a place, or the refusal's number.
-type Held = Result<(Header, Aps), u32>;
+pub(super) type Held = Result<(Header, Aps), u32>;
 
 fn looked_up(table: &Table, (kind, id): (u8, u8)) -> Held {
     let held = table
@@ -119,7 +119,7 @@ fn modelled(model: &Model, (kind, id): (u8, u8)) -> Held {
     Ok((entry.header, record::set(&entry.set)))
 }
 
-fn taken(table: &mut Table, stream: &[u8], work: &mut [u8]) -> Result<[u64; 3], u32> {
+pub(super) fn taken(table: &mut Table, stream: &[u8], work: &mut [u8]) -> Result<[u64; 3], u32> {
     let counts = |c: Counts| [c.accepted, c.refused, c.passed_over].map(|n| n as u64);
     table.take_stream(stream, work).map(counts).map_err(Refusal::number)
 }
@@ -171,7 +171,7 @@ fn typical_sets() -> Row {
     both.row(t, &filling(&mut random, Style::Typical, None))
 }
 
-fn damage(random: &mut Random, stream: &mut Vec<u8>, case: usize) {
+pub(super) fn damage(random: &mut Random, stream: &mut Vec<u8>, case: usize) {
     let len = stream.len();
     match case % 20 {
         9 => flip(stream, random.below(len * 8)),

@@ -88,10 +88,12 @@ pub struct Entry {
     pub header: Header,
 }
 
+/// In the order of their names.
+type Places = [Option<Entry>; 20];
+
 #[derive(Clone, PartialEq)]
 pub struct Table {
-    /// In the order of their names.
-    places: [Option<Entry>; 20],
+    places: Places,
     /// Whether missing bits are looked for, which takes time that is not the Rust's.
     pub looking: bool,
     /// The places that held a set when a refused unit named them, until a caller takes this list.
@@ -207,6 +209,34 @@ impl Table {
             Ok((after, len)) => (Ok(len), after),
             Err(e) => (Err(e), out.to_vec()),
         }
+    }
+}
+
+/// Marks 0 to 7, each never set or with the places as they were when it was last set.
+#[derive(Clone)]
+pub struct Marks([Option<Places>; 8]);
+
+impl Marks {
+    pub fn new() -> Self {
+        Marks([const { None }; 8])
+    }
+
+    /// 2.
+    pub fn set(&mut self, mark: u8, table: &Table) -> Result<(), u32> {
+        let kept = self.0.get_mut(usize::from(mark)).ok_or(2u32)?;
+        *kept = Some(table.places.clone());
+        Ok(())
+    }
+
+    /// 2; 14.
+    pub fn go_back(&self, mark: u8, table: &mut Table) -> Result<(), u32> {
+        let kept = self.0.get(usize::from(mark)).ok_or(2u32)?;
+        table.places = kept.clone().ok_or(14u32)?;
+        Ok(())
+    }
+
+    pub fn is_set(&self, mark: u8) -> bool {
+        self.0.get(usize::from(mark)).is_some_and(Option::is_some)
     }
 }
 

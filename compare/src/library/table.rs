@@ -35,7 +35,7 @@ impl Table {
     }
 
     /// The table's bytes, for a call that may not change them; nor may the compiler take that for granted.
-    fn bytes(&self) -> &[u8; TABLE_BYTES] {
+    pub fn bytes(&self) -> &[u8; TABLE_BYTES] {
         let chunk = black_box(&self.0).first_chunk();
         chunk.expect("a table and the bytes after it")
     }
@@ -45,8 +45,13 @@ impl Table {
         self.0
     }
 
+    /// The table's bytes and those after it, for a call that may change the table.
+    pub fn memory_mut(&mut self) -> &mut [u8] {
+        &mut self.0
+    }
+
     /// The code of a call, which may change the table or must leave it as it was.
-    fn code(&self, code: u32, before: &Table, may_change: bool) -> u32 {
+    pub fn code(&self, code: u32, before: &Table, may_change: bool) -> u32 {
         let kept = if may_change {
             self.0[TABLE_BYTES..] == AFTER
         } else {

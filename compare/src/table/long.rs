@@ -1,6 +1,7 @@
 //! A full table before units with too long an RBSP and too long units, and streams of which the longest unit is not read.
 
 use super::make::Bytes;
+use super::marks::Marks;
 use super::{Both, Named};
 use crate::expected::document::{LONGEST, LONGEST_RBSP};
 use crate::expected::sets::is_aps;
@@ -24,7 +25,7 @@ pub fn units_and_streams(named: &mut Named) -> [Tally; 3] {
 
 /// A table of which all places are filled.
 fn full(t: &mut Tally) -> Both {
-    let mut both = Both::new(&[0; TABLE_BYTES]);
+    let mut both = Both::new(&[0; TABLE_BYTES], Marks::clear());
     let stream = Bytes::new().filling_stream();
     both.stream(t, 0, &stream, &vec![0; stream.len()]);
     assert!(names().iter().all(|&(kind, id)| both.expected.held(kind, id).is_ok()));

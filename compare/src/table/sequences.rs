@@ -1,13 +1,14 @@
-//! Random sequences of calls, with lookups and cuts in between.
+//! Random sequences of calls, with marks, returns, lookups and cuts in between.
 
 use super::make::Bytes;
+use super::marks::{Marks, Rows};
 use super::{Both, Named};
 use crate::expected::sets;
 use crate::expected::table::{names, split, work_due};
 use crate::library::sets::Lent;
 use crate::random::Random;
 use crate::tally::Tally;
-use kendwyra::TABLE_BYTES;
+use kendwyra::{LIST_BYTES, MARKS_BYTES, TABLE_BYTES};
 
 const SEQUENCES: u64 = 150_000;
 
@@ -25,11 +26,16 @@ struct Sequences {
     filler: Vec<u8>,
     /// The memory of an earlier table.
     used: Vec<u8>,
+    /// The memory of an earlier table's marks.
+    used_marks: Vec<u8>,
+    /// How many numbers of marks come in the sequence that is under way.
+    few: usize,
     /// The sequence that is under way.
     number: u64,
     units: Tally,
     streams: Tally,
     named: Named,
+    marks: Rows,
     lookups: Tally,
     lists: Tally,
     read_again: Tally,
@@ -39,17 +45,20 @@ struct Sequences {
 impl Sequences {
     fn new() -> Self {
         let mut random = Random::new(30);
-        let filler = random.bytes(68_000);
+        let filler = random.bytes(190_000);
         Sequences {
             random,
             bytes: Bytes::new(),
             lent: Lent::new(),
             filler,
             used: vec![0xFF; TABLE_BYTES],
+            used_marks: vec![0xFF; MARKS_BYTES],
+            few: 0,
             number: 0,
             units: Tally::new("sequences: units alone"),
             streams: Tally::new("sequences: streams"),
             named: Named::new("sequences"),
+            marks: Rows::new(),
             lookups: Tally::new("sequences: lookups"),
             lists: Tally::new("sequences: lists at a cut"),
             read_again: Tally::new("sequences: lists read into a new table"),
@@ -60,6 +69,7 @@ impl Sequences {
     fn rows(self) -> Vec<Tally> {
         let mut rows = vec![self.units, self.streams];
         rows.extend(self.named.0);
+        rows.extend(self.marks.all());
         rows.extend([self.lookups, self.lists, self.read_again, self.ends]);
         rows
     }
@@ -68,6 +78,7 @@ impl Sequences {
     fn one(&mut self) {
         self.number += 1;
         self.bytes.choose();
+        self.few = [1, 2, 8, 10][self.random.below(4)];
         let mut tables = vec![self.new_table()];
         if self.random.below(500) == 0 {
             let stream = self.bytes.filling_stream();
@@ -78,21 +89,33 @@ impl Sequences {
             if self.random.below(10) == 0 {
                 self.cut(&mut tables);
             }
+            if self.random.below(3) == 0 {
+                self.mark(&mut tables);
+            }
             self.call(&mut tables);
             if self.random.below(6) == 0 {
                 self.look(&tables);
             }
         }
         self.end(&tables);
-        self.used = tables.swap_remove(0).library.memory();
+        if self.random.below(40) == 0 {
+            (0..=8).for_each(|mark| self.go_back(&mut tables, mark));
+        }
+        let Both { library, marks, .. } = tables.swap_remove(0);
+        (self.used, self.used_marks) = (library.memory(), marks.library.memory());
     }
 
     /// In memory of an earlier table, in memory that held any bytes, or in clear memory.
     fn new_table(&mut self) -> Both {
+        let marks = match self.random.below(4) {
+            0 => Marks::new(&self.used_marks),
+            1 => Marks::new(&self.filled(MARKS_BYTES)),
+            _ => Marks::clear(),
+        };
         match self.random.below(4) {
-            0 => Both::new(&self.used),
-            1 => Both::new(&self.filled(TABLE_BYTES)),
-            _ => Both::new(&[0; TABLE_BYTES]),
+            0 => Both::new(&self.used, marks),
+            1 => Both::new(&self.filled(TABLE_BYTES), marks),
+            _ => Both::new(&[0; TABLE_BYTES], marks),
         }
     }
 
@@ -151,6 +174,46 @@ impl Sequences {
         for both in tables {
             both.stream(&mut self.streams, self.number, stream, &work);
             both.named(&mut self.named, &mut self.lent, self.number);
+        }
+    }
+
+    /// A mark set in each table or gone back to; now and then one above 7.
+    fn mark(&mut self, tables: &mut [Both]) {
+        let mark = match self.random.below(12) {
+            0 => [8, 9, 255][self.random.below(3)],
+            _ => self.random.below(self.few) as u8,
+        };
+        if self.random.below(2) == 0 {
+            return self.go_back(tables, mark);
+        }
+        for both in tables {
+            both.set_mark(&mut self.marks, self.number, mark);
+        }
+    }
+
+    /// A mark set before a cut is gone back to in the first table alone; one set since then in both, which after it have the same list if they
+    /// are alike.
+    fn go_back(&mut self, tables: &mut [Both], mark: u8) {
+        let mut returns = 0;
+        for both in &mut *tables {
+            if both.go_back(&mut self.marks, self.number, mark) {
+                returns += 1;
+                let due = both.expected.list().map_or(40, |list| list.len());
+                let out = self.filled(due);
+                both.places(&mut self.marks.after, &mut self.lent, self.number);
+                both.list(&mut self.marks.after, self.number, &out);
+            }
+        }
+        if let (2, [first, second]) = (returns, tables) {
+            if first.expected == second.expected {
+                let out = self.filled(LIST_BYTES);
+                let [list, again] = [&*first, &*second].map(|both| {
+                    let mut after = out.clone();
+                    (both.library.write_list(&mut after), after)
+                });
+                let asked = || format!("sequence {}: list of both after a return to mark {mark}", self.number);
+                self.marks.in_both.same(asked, list, again);
+            }
         }
     }
 

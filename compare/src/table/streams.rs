@@ -1,5 +1,6 @@
 //! Every short stream.
 
+use super::marks::Marks;
 use super::{Both, Named};
 use crate::expected::table::{split, work_due};
 use crate::library::sets::Lent;
@@ -17,7 +18,7 @@ const LETTERS: [u8; 5] = [0x89, 0x10, 0x03, 0x01, 0x00];
 pub fn every_short_stream(named: &mut Named) -> Tally {
     let mut t = Tally::new("streams: every one of up to 8 of five bytes");
     let mut lent = Lent::new();
-    let mut both = Both::new(&[0; TABLE_BYTES]);
+    let mut both = Both::new(&[0; TABLE_BYTES], Marks::clear());
     for len in 0..=8 {
         for n in 0..LETTERS.len().pow(len) {
             let digits = (0..len).map(|place| n / LETTERS.len().pow(place) % LETTERS.len());

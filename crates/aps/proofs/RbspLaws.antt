@@ -173,7 +173,7 @@ module _ (s : List ℕ) (a : VvcAps) (q : ℕ) (e : read_rbsp s ≡ value a q) w
       let f = bits-plain a x in
       pack-is (rbsp_bits a) (bits-rbsp a (rbsp-sound s a q e).0) s (q / 8) y (rw f at h) (omega (arith, rw f at n, length-rbsp a)) (omega (arith, rbsp-end))
 
--- the most bytes that a set of each kind takes by its syntax
+-- no fewer bytes than a set of each kind can take by its syntax
 abbrev pub most_sent : ℕ → ℕ
 most_sent zero = 832
 most_sent (suc zero) = 37

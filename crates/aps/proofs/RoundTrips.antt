@@ -2,10 +2,10 @@
 use mathlib.Core.Path.{◌≡◌, refl, sym, ap, ◌∙◌}
 use mathlib.Core.Bool.{Bool, true, false, cond}
 use mathlib.Core.List.{List, [], ◌++◌, append-nil}
-use Prim.Native.Nat.{ℕ, suc, ◌+◌, ◌*◌, ◌-◌, ◌/◌, ◌≤◌, ◌<◌}
+use Prim.Native.Nat.{ℕ, suc, ◌*◌, ◌/◌, ◌≤◌, ◌<◌}
 use native.Mathlib.Omega.{arith}
 use borrow.Author.Tests.{ltb-false}
-use lib.Dec.{ltb, lit≤}
+use lib.Dec.{ltb}
 use lib.ListN.{length, get_or, take, drop, take-append-drop}
 use lib.Seq.{take-append_seam}
 use Rattle.bitstream.specs.Outcome.{Outcome, value, refused, ◌then◌}
@@ -16,10 +16,9 @@ use Rattle.bitstream.proofs.EscapeLaws.{unescape-of-escape, escape-most}
 use Rattle.aps.specs.Kinds.{most_bytes}
 use Rattle.aps.specs.ApsSyntax.{number_of, aps, inferred}
 use Rattle.aps.specs.Rbsp.{read_rbsp, parse_aps_rbsp, rbsp_bytes}
-use Rattle.aps.specs.Unit.{rbsp_of, is_aps_header, unit_header, admitted, parse_aps}
+use Rattle.aps.specs.Unit.{rbsp_of, is_aps_header, unit_header, parse_aps}
 use Rattle.aps.specs.declared.unit_header.UnitHeader.{UnitHeader}
 use Rattle.aps.specs.Writing.{bytes_due, write_aps, unit_of, write_aps_nal}
-use Rattle.aps.specs.declared.aps.ApsKind.{ApsKind}
 use Rattle.aps.specs.declared.aps.VvcAps.{VvcAps}
 use Rattle.aps.proofs.RbspSteps.{in-limits}
 use Rattle.aps.proofs.RbspLaws.{rbsp-sound, read-write, write_read, rbsp-some, rbsp-most, rbsp-last, length-read}

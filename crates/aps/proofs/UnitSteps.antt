@@ -8,12 +8,11 @@ use Prim.Native.Nat.{ℕ, suc, ◌*◌, ◌+◌, ◌-◌, ◌≤◌, ◌<◌, �
 use native.Mathlib.Omega.{arith}
 use borrow.Author.Tests.{ltb-false, le-ltb, lt-ltb, leb-true, leb-false, eqb-true}
 use lib.Dec.{leb, ltb, eqb}
-use lib.ListN.{length, take, drop, get_or, length-drop, length-append}
+use lib.ListN.{length, take, drop, length-drop, length-append}
 use lib.Seq.{take-append_seam, take_all}
 use Rattle.bitstream.specs.Outcome.{Outcome, value, refused, number, left, outcome_written, ◌then◌}
 use Rattle.bitstream.specs.Escapes.{put_bytes, ebsp_to_rbsp}
 use Rattle.bitstream.proofs.CodeLaws.{value-refused}
-use Rattle.bitstream.proofs.EscapeLaws.{unescape-most}
 use Rattle.aps.specs.Rbsp.{read_rbsp, parse_aps_rbsp}
 use Rattle.aps.specs.Inner.{Unwrapped}
 use Rattle.aps.specs.Unit.{is_aps, rbsp_of, header_of, parse_nal_header, kept_of, is_aps_header, zero_bits, judged, unit_header, fitting, admitted, parse_aps, work_after}

@@ -7,7 +7,7 @@ largest_id zero = 7
 largest_id (suc zero) = 3
 largest_id (suc (suc k)) = 7
 
--- the most bytes of an RBSP that is read or written; that of scaling lists may take 2,931
+-- the most bytes of an RBSP that is read or written; that of scaling lists may be longer
 abbrev pub most_bytes : ℕ → ℕ
 most_bytes zero = 832
 most_bytes (suc zero) = 37

@@ -1,20 +1,22 @@
 -- Laws of the book: the last unit that named a place decides, and books that agree go on agreeing.
 use Prim.Native.Nat.{ℕ, zero, suc, ◌+◌, ◌≤◌, ◌<◌}
 use mathlib.Core.Path.{◌≡◌, refl, sym, ap, ◌∙◌}
-use mathlib.Core.Bool.{Bool, true, false, cond, ◌&&◌, ◌||◌, or-true}
-use mathlib.Core.List.{List, [], ◌∷◌, ◌++◌}
+use mathlib.Core.Bool.{Bool, true, false, cond, not, ◌&&◌, ◌||◌, or-true, false≢true}
+use mathlib.Core.List.{List, [], ◌∷◌, ◌++◌, map}
 use mathlib.Core.Option.{Option, none, some}
 use mathlib.Core.Logic.{◌⊎◌, inl, inr}
 use native.Mathlib.Omega.{arith}
-use borrow.Author.Tests.{leb-true, leb-false}
+use borrow.Author.Tests.{leb-true, leb-false, le-leb, eq-eqb, not-true}
 use lib.Dec.{leb, eqb}
 use Rattle.bitstream.specs.Outcome.{Outcome, value, refused}
 use Rattle.aps.specs.Kinds.{largest_id}
 use Rattle.aps_table.specs.Places.{HeldAps, Names, ids, names, filled_among, Entries, kind_in, id_in, extended}
 use Rattle.aps_table.specs.Taking.{Verdict, accept, pass, damage, refuse, verdict}
-use Rattle.aps_table.specs.Calls.{Call, stream, alone, units_taken}
+use Rattle.aps_table.specs.Calls.{Call, stream, alone, Step, taking, marking, returning, units_taken}
+use Rattle.aps_table.specs.Demand3.{sets_none}
+use Rattle.aps.proofs.CodecLaws.{and_left, and_right}
 use Rattle.aps_table.specs.List.{is_extended, any_extended, listed, list_due}
-use Rattle.aps_table.specs.Book.{no_entries, replace, note, note_units, note_taken, enter, enters, book, Naming, naming, naming_units, naming_taken, namings, of_place, last, last_named}
+use Rattle.aps_table.specs.Book.{no_entries, no_marks, Ledger, keep, or_as, enter_step, enter_steps, replace, note, note_units, note_taken, enter, enters, book, Naming, naming, naming_units, naming_taken, namings, of_place, last, last_named}
 
 -- ---- the 20 names
 
@@ -122,8 +124,71 @@ module _ (k i : ℕ) where
   last-enters (alone u room ∷ cs) b = last-noted (verdict u room) (namings cs) b ∙ last-enters cs (enter (alone u room) b)
 
 -- the book holds the set of the last unit that named a place, if it was accepted
-pub book-last : (cs : List Call) (k i : ℕ) → book cs k i ≡ last_named cs k i
-book-last cs k i = sym (last-enters k i cs no_entries) ∙ last-none (of_place k i (namings cs))
+pub enters-last : (cs : List Call) (k i : ℕ) → enters cs no_entries k i ≡ last_named cs k i
+enters-last cs k i = sym (last-enters k i cs no_entries) ∙ last-none (of_place k i (namings cs))
+
+-- steps without marks are calls
+pub steps-calls : (cs : List Call) (l : Ledger) → enter_steps (map taking cs) l ≡ (enters cs l.0, l.1)
+unfolding enter_steps enters
+steps-calls [] l = refl
+steps-calls (c ∷ cs) l = steps-calls cs (enter c l.0, l.1)
+
+pub book-last : (xs : List Step) (cs : List Call) → xs ≡ map taking cs → (k i : ℕ) → book xs k i ≡ last_named cs k i
+book-last xs cs e k i =
+    ap (λ (ys : List Step). (enter_steps ys (no_entries, no_marks)).0 k i) e
+    ∙ ap (λ (l : Ledger). l.0 k i) (steps-calls cs (no_entries, no_marks)) ∙ enters-last cs k i
+
+-- ---- a return to a mark
+
+-- steps after steps
+steps-append : (xs ys : List Step) (l : Ledger) → enter_steps (xs ++ ys) l ≡ enter_steps ys (enter_steps xs l)
+unfolding enter_steps
+steps-append [] ys l = refl
+steps-append (x ∷ xs) ys l = steps-append xs ys (enter_step x l)
+
+-- what a mark keeps stays where no step sets it
+keeps-on : (n : ℕ) (xs : List Step) (l : Ledger) → sets_none n xs ≡ true → (enter_steps xs l).1 n ≡ l.1 n
+unfolding enter_steps sets_none
+keeps-on n [] l h = refl
+keeps-on n (taking c ∷ xs) l h = keeps-on n xs (enter_step (taking c) l) h
+keeps-on n (marking m ∷ xs) l h = keeps-on n xs (enter_step (marking m) l) (and_right (not (eqb n m)) (sets_none n xs) h) ∙ go (leb m 7)
+  where
+    other : eqb n m ≡ false
+    other = not-true (eqb n m) (and_left (not (eqb n m)) (sets_none n xs) h)
+
+    go : (t : Bool) → cond t (keep m l.0 l.1) l.1 n ≡ l.1 n
+    go true = rw other
+    go false = refl
+keeps-on n (returning m ∷ xs) l h = keeps-on n xs (enter_step (returning m) l) h
+
+-- a mark that is set keeps the entries
+keeps-own : (n : ℕ) (l : Ledger) → n ≤ 7 → (enter_step (marking n) l).1 n ≡ some l.0
+keeps-own n l s = go (leb n 7) (le-leb n 7 s)
+  where
+    go : (t : Bool) → t ≡ true → cond t (keep n l.0 l.1) l.1 n ≡ some l.0
+    go true e = rw (eq-eqb n n refl)
+    go false e = absurd (false≢true e)
+
+-- a return to it gives them back
+returns-own : (n : ℕ) (l : Ledger) (b : Entries) → n ≤ 7 → l.1 n ≡ some b → (enter_step (returning n) l).0 ≡ b
+returns-own n l b s e = go (leb n 7) (le-leb n 7 s)
+  where
+    go : (t : Bool) → t ≡ true → cond t (or_as (l.1 n) l.0) l.0 ≡ b
+    go true f = rw e
+    go false f = absurd (false≢true f)
+
+-- after a return the entries are those that stood when the mark was last set, changed by the calls since
+pub book-returned : (xs ms : List Step) (cs : List Call) (n : ℕ) → n ≤ 7 → sets_none n ms ≡ true → (k i : ℕ)
+    → book (xs ++ (marking n ∷ (ms ++ (returning n ∷ map taking cs)))) k i ≡ enters cs (book xs) k i
+unfolding enter_steps
+book-returned xs ms cs n s h k i =
+    let l = enter_steps xs (no_entries, no_marks) in
+    let m = enter_step (marking n) l in
+    let p = enter_steps ms m in
+    let e : enter_steps (xs ++ (marking n ∷ (ms ++ (returning n ∷ map taking cs)))) (no_entries, no_marks) ≡ enter_steps (map taking cs) (enter_step (returning n) p)
+    = steps-append xs (marking n ∷ (ms ++ (returning n ∷ map taking cs))) (no_entries, no_marks) ∙ steps-append ms (returning n ∷ map taking cs) m in
+    let b : (enter_step (returning n) p).0 ≡ l.0 = returns-own n p l.0 s (keeps-on n ms m h ∙ keeps-own n l s) in
+    ap (λ (q : Ledger). q.0 k i) (e ∙ steps-calls cs (enter_step (returning n) p)) ∙ ap (λ (q : Entries). enters cs q k i) b
 
 -- ---- books that agree on the 20 names go on agreeing
 
@@ -145,7 +210,7 @@ agree-taken : (room : ℕ) (r : Outcome (List (List ℕ))) (b c : Entries) → A
 agree-taken room (value us n) b c h = agree-units room us b c h
 agree-taken room (refused n) b c h = h
 
-agree-enter : (c : Call) (a b : Entries) → Agree a b → Agree (enter c a) (enter c b)
+pub agree-enter : (c : Call) (a b : Entries) → Agree a b → Agree (enter c a) (enter c b)
 agree-enter (stream s room) a b h = agree-taken room (units_taken s room) a b h
 agree-enter (alone u room) a b h = agree-note (verdict u room) a b h
 

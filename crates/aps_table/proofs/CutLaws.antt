@@ -8,7 +8,7 @@ use mathlib.Core.Logic.{◌⊎◌, inl, inr}
 use native.Mathlib.Nat.{add-zero, zero-add, add_assoc}
 use native.Mathlib.Omega.{arith}
 use borrow.Author.Tests.{eqb-true, eq-eqb, le-ltb, lt-ltb}
-use lib.Dec.{ltb, eqb, lit≤}
+use lib.Dec.{leb, ltb, eqb, lit≤}
 use lib.ListN.{length, length-append}
 use Rattle.bitstream.specs.Outcome.{Outcome, value, refused}
 use Rattle.aps.specs.Rbsp.{read_rbsp}
@@ -18,10 +18,10 @@ use Rattle.aps.proofs.UnitSteps.{headed}
 use Rattle.aps_table.specs.Split.{framed}
 use Rattle.aps_table.specs.Places.{HeldAps, names, Entries, kind_in, id_in, filled_among, filled}
 use Rattle.aps_table.specs.Taking.{Verdict, accept, pass, damage, refuse, verdict, tally, no_units}
-use Rattle.aps_table.specs.Calls.{read_of, longest, Call, stream, alone, counted, units_taken, answer_to}
+use Rattle.aps_table.specs.Calls.{read_of, longest, Call, stream, alone, Step, taking, marking, returning, counted, units_taken, answer_to}
 use Rattle.aps_table.specs.Demand3.{needed, work_for}
 use Rattle.aps_table.specs.List.{is_extended, any_extended, joined, listed, list_due}
-use Rattle.aps_table.specs.Book.{no_entries, replace, note, note_units, note_taken, enter, enters, book}
+use Rattle.aps_table.specs.Book.{no_entries, no_marks, Kept, Ledger, keep, or_as, replace, note, note_units, note_taken, enter, enters, enter_step, enter_steps, book}
 use Rattle.aps_table.specs.Inner.{most_listed}
 use Rattle.aps_table.specs.declared.table.Counts.{Counts}
 use Rattle.aps_table.proofs.SplitLaws.{AllFit, split-framed}
@@ -94,8 +94,38 @@ unfolding enters
 held-enters [] b h = h
 held-enters (c ∷ cs) b h = held-enters cs (enter c b) (held-enter c b h)
 
-pub held-book : (cs : List Call) → Held (book cs)
-held-book cs = held-enters cs no_entries (λ k i a e. absurd (none-some e))
+-- so do the entries that marks keep
+abbrev HeldMarks : Kept → Type 0
+HeldMarks m = (n : ℕ) (b : Entries) → m n ≡ some b → Held b
+
+none-kept : {b : Entries} → none ≡ some b → ⊥
+none-kept q = let z : ◌≡◌ {A = ℕ} 0 1 = cc in omega arith
+
+held-step : (x : Step) (l : Ledger) → Held l.0 → HeldMarks l.1 → Held (enter_step x l).0 × HeldMarks (enter_step x l).1
+held-step (taking c) l h m = (held-enter c l.0 h, m)
+held-step (marking n) l h m = (h, go (leb n 7))
+  where
+    one : (j : ℕ) (b : Entries) (t : Bool) → cond t (some l.0) (l.1 j) ≡ some b → Held b
+    one j b true e = let z : l.0 ≡ b = cc in rw (← z) h
+    one j b false e = m j b e
+
+    go : (t : Bool) → HeldMarks (cond t (keep n l.0 l.1) l.1)
+    go true = λ j b e. one j b (eqb j n) e
+    go false = m
+held-step (returning n) l h m = (go (leb n 7) (l.1 n) refl, m)
+  where
+    go : (t : Bool) (o : Option Entries) → l.1 n ≡ o → Held (cond t (or_as o l.0) l.0)
+    go true none e = h
+    go true (some b) e = m n b e
+    go false o e = h
+
+held-steps : (xs : List Step) (l : Ledger) → Held l.0 → HeldMarks l.1 → Held (enter_steps xs l).0
+unfolding enter_steps
+held-steps [] l h m = h
+held-steps (x ∷ xs) l h m = let s = held-step x l h m in held-steps xs (enter_step x l) s.0 s.1
+
+pub held-book : (xs : List Step) → Held (book xs)
+held-book xs = held-steps xs (no_entries, no_marks) (λ k i a e. absurd (none-some e)) (λ n b e. absurd (none-kept e))
 
 -- ---- entries put over others
 

@@ -1,6 +1,6 @@
 -- The first byte of a set's RBSP tells its kind and its id; so a place whose RBSP begins with another has no set.
 use borrow.Author.Tests.{eqb-true}
-use mathlib.Core.Path.{◌≡◌, refl, sym, ap, ◌∙◌}
+use mathlib.Core.Path.{◌≡◌, refl, sym, ◌∙◌}
 use mathlib.Core.Bool.{Bool, true, false, cond, ◌&&◌}
 use mathlib.Core.List.{List, ◌++◌}
 use mathlib.Core.Option.{none, some}

@@ -6,6 +6,9 @@ pub mod Examples
 pub mod FirstByte
 pub mod HeldSteps
 pub mod ListLaws
+pub mod MarkLaws
+pub mod TableLaws
+pub mod MarkSteps
 pub mod ListSteps
 pub mod PlaceSteps
 pub mod PlaceReads

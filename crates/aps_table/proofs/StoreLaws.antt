@@ -10,7 +10,7 @@ use borrow.Author.Tests.{eqb-true, eq-eqb, leb-true, leb-false}
 use lib.Dec.{eqb, leb}
 use lib.ListN.{length, get_or, set, take, drop, take-append-drop, replicate, length-take, get_or-eq_default, length-replicate}
 use lib.Seq.{sets, sets-eq, take-set-le, drop-set-lt, drop-set-add, drop_at, take_at, take-take, length-take-le, get_or-take, get_or-drop}
-use Rattle.bitstream.specs.Outcome.{Outcome, value, refused}
+use Rattle.bitstream.specs.Outcome.{value}
 use Rattle.aps.specs.Kinds.{most_bytes}
 use Rattle.aps.specs.Rbsp.{read_rbsp}
 use Rattle.aps.specs.Unit.{is_aps_header, unit_header}
@@ -29,7 +29,7 @@ use Rattle.aps_table.proofs.PlaceSteps.{names-of, place-within, place-most}
 
 module _ {A : Type 0} where
   -- bytes that end before them stay
-  window-before : (vs l : List A) (i j n : ℕ) → j + n ≤ i → take n (drop j (sets l i vs)) ≡ take n (drop j l)
+  pub window-before : (vs l : List A) (i j n : ℕ) → j + n ≤ i → take n (drop j (sets l i vs)) ≡ take n (drop j l)
   window-before [] l i j n h = refl
   window-before (v ∷ vs) l i j n h =
       let k = i - j in
@@ -38,13 +38,13 @@ module _ {A : Type 0} where
       ∙ rw e (ap (take n) (drop-set-add j l k v) ∙ take-set-le n (drop j l) k v (omega arith))
 
   -- bytes that start behind them stay
-  window-behind : (vs l : List A) (i j : ℕ) → i + length vs ≤ j → drop j (sets l i vs) ≡ drop j l
+  pub window-behind : (vs l : List A) (i j : ℕ) → i + length vs ≤ j → drop j (sets l i vs) ≡ drop j l
   window-behind [] l i j h = refl
   window-behind (v ∷ vs) l i j h =
       window-behind vs (set l i v) (suc i) j (omega arith) ∙ drop-set-lt j l i v (omega arith)
 
   -- they stand where they were stored
-  window-at : (vs l : List A) (i : ℕ) → i + length vs ≤ length l → take (length vs) (drop i (sets l i vs)) ≡ vs
+  pub window-at : (vs l : List A) (i : ℕ) → i + length vs ≤ length l → take (length vs) (drop i (sets l i vs)) ≡ vs
   window-at vs l i h =
       let t : length (take i l) ≡ i = length-take-le i l (omega arith) in
       ap (λ (x : List A). take (length vs) (drop i x)) (sets-eq vs l i h ∙ simp append_assoc)
@@ -53,7 +53,7 @@ module _ {A : Type 0} where
 
 -- ---- places
 
-either_way : (i j : ℕ) → (i ≡ j → ⊥) → (j < i) ⊎ (i < j)
+pub either_way : (i j : ℕ) → (i ≡ j → ⊥) → (j < i) ⊎ (i < j)
 either_way i j d = go (leb i j) refl
   where
     apart : i ≤ j → i < j
@@ -192,7 +192,7 @@ pub new-length : length new_table ≡ table_bytes
 unfolding new_table
 new-length = length-replicate {A = ℕ} table_bytes 0
 
-zeros-at : (m n : ℕ) → ◌≡◌ {A = ℕ} (get_or (replicate m 0) n 0) 0
+pub zeros-at : (m n : ℕ) → ◌≡◌ {A = ℕ} (get_or (replicate m 0) n 0) 0
 zeros-at zero n = refl
 zeros-at (suc m) zero = refl
 zeros-at (suc m) (suc n) = zeros-at m n

@@ -1,15 +1,14 @@
 -- What a unit comes to, by what its header and its RBSP come to.
-use mathlib.Core.Path.{◌≡◌, refl, sym, ap, ◌∙◌}
-use mathlib.Core.Bool.{Bool, true, false, cond, not, ◌&&◌, and-false, and_comm, true≢false}
+use mathlib.Core.Path.{◌≡◌, refl, ap, ◌∙◌}
+use mathlib.Core.Bool.{Bool, true, false, cond, ◌&&◌, and-false, and_comm}
 use mathlib.Core.List.{List, [], ◌∷◌}
-use Prim.Native.Nat.{ℕ, suc, ◌-◌, ◌/◌, ◌%◌, ◌≤◌}
+use Prim.Native.Nat.{ℕ, suc, ◌/◌, ◌%◌, ◌≤◌}
 use native.Mathlib.Omega.{arith}
-use borrow.Author.Tests.{ltb-true, ltb-false, leb-true, le-leb, lt-leb}
+use borrow.Author.Tests.{ltb-true, leb-true, le-leb}
 use lib.Dec.{leb, ltb}
 use lib.ListN.{length, get_or}
 use Rattle.bitstream.specs.Outcome.{Outcome, value, refused, ◌then◌}
 use Rattle.bitstream.specs.Escapes.{zero_run, unescape_from}
-use Rattle.bitstream.proofs.CodeLaws.{value-refused}
 use Rattle.aps.specs.Kinds.{largest_id}
 use Rattle.aps.specs.Rbsp.{read_rbsp}
 use Rattle.aps.specs.Unit.{rbsp_of, unit_header, fitting, parse_aps}

@@ -1,10 +1,10 @@
 -- The book, what is in force: an entry for each kind and id, a set with its unit's header, replaced at each unit accepted for it and removed at each damaged one. It is fed by the calls alone.
-use Rattle.std.specs.Prelude.{ℕ, cond, ◌&&◌, List, [], ◌∷◌, eqb}
+use Rattle.std.specs.Prelude.{ℕ, cond, ◌&&◌, List, [], ◌∷◌, leb, eqb}
 use Rattle.std.proofs.Math.Option.{Option, none, some}
 use Rattle.bitstream.specs.Outcome.{Outcome, value, refused}
 use Rattle.aps_table.specs.Places.{HeldAps, Entries, kind_in, id_in}
 use Rattle.aps_table.specs.Taking.{Verdict, accept, pass, damage, refuse, verdict}
-use Rattle.aps_table.specs.Calls.{Call, stream, alone, units_taken}
+use Rattle.aps_table.specs.Calls.{Call, stream, alone, Step, taking, marking, returning, units_taken}
 
 abbrev pub no_entries : Entries
 no_entries k i = none
@@ -37,10 +37,39 @@ unfoldable pub enters : List Call → Entries → Entries
 enters [] b = b
 enters (c ∷ cs) b = enters cs (enter c b)
 
-abbrev pub book : List Call → Entries
-book cs = enters cs no_entries
+-- ---- with marks: for each number the entries that it keeps, or none
 
--- ---- the same by the last unit that named a place
+abbrev pub Kept : Type 0
+Kept = ℕ → Option Entries
+
+abbrev pub no_marks : Kept
+no_marks n = none
+
+abbrev pub keep : ℕ → Entries → Kept → Kept
+keep n b m j = cond (eqb j n) (some b) (m j)
+
+abbrev pub or_as : Option Entries → Entries → Entries
+or_as none b = b
+or_as (some e) b = e
+
+-- the entries and the marks
+abbrev pub Ledger : Type 0
+Ledger = Entries × Kept
+
+-- a mark above 7, or one that keeps none, changes nothing
+abbrev pub enter_step : Step → Ledger → Ledger
+enter_step (taking c) l = (enter c l.0, l.1)
+enter_step (marking n) l = (l.0, cond (leb n 7) (keep n l.0 l.1) l.1)
+enter_step (returning n) l = (cond (leb n 7) (or_as (l.1 n) l.0) l.0, l.1)
+
+unfoldable pub enter_steps : List Step → Ledger → Ledger
+enter_steps [] l = l
+enter_steps (x ∷ xs) l = enter_steps xs (enter_step x l)
+
+abbrev pub book : List Step → Entries
+book xs = (enter_steps xs (no_entries, no_marks)).0
+
+-- ---- without marks the same by the last unit that named a place
 
 -- a unit that names a place: its kind and id, and what was accepted for it, or none where it was damaged
 abbrev pub Naming : Type 0

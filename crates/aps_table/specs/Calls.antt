@@ -1,10 +1,11 @@
--- The calls that change a table: what each does to it and answers.
-use Rattle.std.specs.Prelude.{ℕ, cond, List, [], ◌∷◌, ltb, length}
+-- The calls that change a table: what each does to it, or to its marks, and answers.
+use Rattle.std.specs.Prelude.{ℕ, cond, List, [], ◌∷◌, ltb, length, Result, Ok, Err}
 use Rattle.std.proofs.Math.Option.{none, some}
 use Rattle.bitstream.specs.Outcome.{Outcome, value, refused}
 use Rattle.aps.specs.Unit.{rbsp_of, unit_header}
 use Rattle.aps.specs.declared.unit_header.UnitHeader.{UnitHeader}
 use Rattle.aps_table.specs.Split.{Units, split}
+use Rattle.aps_table.specs.Marks.{set_mark, go_back, given}
 use Rattle.aps_table.specs.Taking.{Verdict, accept, pass, damage, refuse, verdict, take_unit, take_units, work_units, tally, no_units}
 use Rattle.aps_table.specs.declared.table.Counts.{Counts}
 
@@ -13,11 +14,12 @@ pub data Call : Type 0 where
   stream : List ℕ → ℕ → Call
   alone : List ℕ → ℕ → Call
 
--- three counts for a stream; a unit alone is accepted or passed over; or a refusal's number
+-- three counts for a stream; a unit alone is accepted or passed over; marking and going back are done; or a refusal's number
 pub data Answer : Type 0 where
   counted : Counts → Answer
   accepted : Answer
   passed : Answer
+  done : Answer
   refusal : ℕ → Answer
 
 abbrev pub larger : ℕ → ℕ → ℕ
@@ -76,3 +78,29 @@ work_taken (refused n) work = work
 
 abbrev pub work_after_stream : List ℕ → List ℕ → List ℕ
 work_after_stream s work = work_taken (units_taken s (length work)) work
+
+-- ---- with marks
+
+-- a call as above, a mark set, or a return to one
+pub data Step : Type 0 where
+  taking : Call → Step
+  marking : ℕ → Step
+  returning : ℕ → Step
+
+-- a table and its marks
+abbrev pub State : Type 0
+State = List ℕ × List ℕ
+
+abbrev pub step_after : Step → State → State
+step_after (taking c) s = (table_after c s.0, s.1)
+step_after (marking n) s = (s.0, given (set_mark n s.0 s.1) s.1)
+step_after (returning n) s = (given (go_back n s.1) s.0, s.1)
+
+abbrev pub answer_of : Result (List ℕ) ℕ → Answer
+answer_of (Ok l) = done
+answer_of (Err n) = refusal n
+
+abbrev pub step_answer : Step → State → Answer
+step_answer (taking c) s = answer_to c
+step_answer (marking n) s = answer_of (set_mark n s.0 s.1)
+step_answer (returning n) s = answer_of (go_back n s.1)

@@ -1,6 +1,7 @@
 pub mod Split
 pub mod Places
 pub mod Taking
+pub mod Marks
 pub mod Calls
 pub mod List
 pub mod Book

@@ -3,6 +3,7 @@
 
 pub mod held_set;
 pub mod list;
+pub mod marks;
 pub mod places;
 mod split;
 pub mod table;

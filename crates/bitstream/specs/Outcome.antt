@@ -1,7 +1,7 @@
 -- What a call answers: a value with the place after it, or a refusal's number .
 use Rattle.std.specs.Prelude.{ℕ, List, Result, Ok, Err}
 use Rattle.bitstream.specs.declared.Refusal.{Refusal}
-use Rattle.bitstream.specs.declared.Refusal.TheVariants.{UnexpectedEnd, InvalidData, Unsupported, InputTooLong, OutputTooShort, EmptyPlace}
+use Rattle.bitstream.specs.declared.Refusal.TheVariants.{UnexpectedEnd, InvalidData, Unsupported, InputTooLong, OutputTooShort, EmptyPlace, MarkNotSet}
 
 -- the place after a field is a bit; after bytes that were written, a byte
 pub data Outcome (A : Type 0) : Type 0 where
@@ -16,6 +16,7 @@ number Unsupported = 3
 number InputTooLong = 4
 number OutputTooShort = 5
 number EmptyPlace = 6
+number MarkNotSet = 14
 
 abbrev pub map_outcome : {A B : Type 0} → (A → B) → Outcome A → Outcome B
 map_outcome f (value a p) = value (f a) p

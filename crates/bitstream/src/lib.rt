@@ -18,7 +18,7 @@ pub const LONGEST_INPUT: usize = 65536;
 // The last bit at which a field may start.
 pub const LAST_START: usize = 1048576;
 
-// Why a call refuses: the numbers 1 to 6, in order.
+// Why a call refuses: the numbers 1 to 6, in order, and 14.
 #[derive(Clone, Copy, Debug, PartialEq, Eq)]
 pub enum Refusal {
     UnexpectedEnd,
@@ -27,6 +27,7 @@ pub enum Refusal {
     InputTooLong,
     OutputTooShort,
     EmptyPlace,
+    MarkNotSet,
 }
 
 // A refusal's number.
@@ -41,6 +42,7 @@ impl From<Refusal> for u32 {
             Refusal::InputTooLong => 4,
             Refusal::OutputTooShort => 5,
             Refusal::EmptyPlace => 6,
+            Refusal::MarkNotSet => 14,
         }
     }
 }

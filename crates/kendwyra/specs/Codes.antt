@@ -11,7 +11,7 @@ use Rattle.aps.specs.declared.aps.VvcAps.{VvcAps}
 use Rattle.aps.specs.declared.nal_header.VvcNalHeader.{VvcNalHeader}
 use Rattle.aps.specs.declared.unit_header.UnitHeader.{UnitHeader}
 use Rattle.aps_table.specs.Places.{HeldAps, Looked, found, missing}
-use Rattle.aps_table.specs.Calls.{Answer, counted, accepted, passed, refusal}
+use Rattle.aps_table.specs.Calls.{Answer, counted, accepted, passed, done, refusal}
 
 -- 0 for a value, or the refusal's number
 unfoldable pub code : {A : Type 0} → Outcome A → ℕ
@@ -69,11 +69,12 @@ rewrite s out = parse_aps_rbsp s then λ a q. write_aps a out
 unfoldable pub rewrite_of : ApsKind → List ℕ → List ℕ → Outcome (List ℕ)
 rewrite_of kind s out = of_kind kind (λ a. a) (parse_aps_rbsp s) then λ a q. write_aps a out
 
--- 0 for a stream that was taken and a unit that was accepted, 256 for a unit passed over, or the refusal's number
+-- 0 for a stream that was taken, a unit that was accepted and what was done with a mark, 256 for a unit passed over, or the refusal's number
 unfoldable pub answer_code : Answer → ℕ
 answer_code (counted c) = 0
 answer_code accepted = 0
 answer_code passed = 256
+answer_code done = 0
 answer_code (refusal n) = n
 
 -- how many units were accepted, refused and passed over; on a refusal the array at entry
@@ -81,4 +82,5 @@ unfoldable pub counts_left : Answer → List ℕ → List ℕ
 counts_left (counted c) before = sets before 0 (c.accepted ∷ c.refused ∷ c.passed ∷ [])
 counts_left accepted before = before
 counts_left passed before = before
+counts_left done before = before
 counts_left (refusal n) before = before

@@ -9,6 +9,7 @@ mod flags;
 pub mod heads;
 pub mod kinds;
 mod lmcs;
+pub mod marks;
 mod scaling;
 mod set;
 pub mod sets;

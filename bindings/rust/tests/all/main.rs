@@ -8,6 +8,7 @@ mod layout;
 mod longest;
 mod made;
 mod marked;
+mod marks;
 mod random;
 mod refusals;
 mod table;

@@ -4,19 +4,19 @@ use crate::bytes::hex;
 use crate::made::{self, LONGEST_UNIT};
 use kendwyra::escapes::{ebsp_to_rbsp, rbsp_to_ebsp};
 use kendwyra::sets::{nal_header, read, read_unit, rewrite, write};
-use kendwyra::{Alf, Aps, Head, Kind, Lmcs, Refusal, Scaling, Table, UnitHeader, LONGEST_INPUT, LONGEST_RBSP};
+use kendwyra::{Alf, Aps, Head, Kind, Lmcs, Marks, Refusal, Scaling, Table, UnitHeader, LONGEST_INPUT, LONGEST_RBSP};
 
 #[test]
 fn numbers_and_words() {
-    for number in 1..=6 {
+    for number in (1..=6).chain([14]) {
         let refusal = Refusal::from_number(number).unwrap();
         assert_eq!(refusal.number(), number);
         let error: Box<dyn std::error::Error> = refusal.into();
         assert!(!error.to_string().is_empty());
     }
-    assert_eq!(Refusal::from_number(0), None);
-    assert_eq!(Refusal::from_number(7), None);
-    assert_eq!(Refusal::from_number(256), None);
+    for number in [0, 256].into_iter().chain(7..14).chain(15..20) {
+        assert_eq!(Refusal::from_number(number), None);
+    }
 }
 
 #[test]
@@ -29,6 +29,8 @@ fn each_number() {
     let set = Aps::Alf(Alf::default());
     assert_eq!(write(&set, &mut [0]).map_err(Refusal::number), Err(5));
     assert_eq!(Table::new().lookup(Kind::Alf, 0).map_err(Refusal::number), Err(6));
+    let never_set = Table::new().go_back(&Marks::new(), 0);
+    assert_eq!(never_set.map_err(Refusal::number), Err(14));
 }
 
 #[test]

@@ -8,7 +8,7 @@ use kendwyra::{
     TABLE_BYTES,
 };
 
-fn unit(held: &Held<Aps>) -> Vec<u8> {
+pub fn unit(held: &Held<Aps>) -> Vec<u8> {
     let mut unit = vec![0; LONGEST_UNIT];
     let len = write_unit(&held.set, held.header, &mut unit).unwrap();
     unit.truncate(len);
@@ -16,7 +16,7 @@ fn unit(held: &Held<Aps>) -> Vec<u8> {
 }
 
 /// A table that took these units, one by one.
-fn holding(units: &[Held<Aps>]) -> Table {
+pub fn holding(units: &[Held<Aps>]) -> Table {
     let mut table = Table::new();
     for held in units {
         assert_eq!(
@@ -28,7 +28,7 @@ fn holding(units: &[Held<Aps>]) -> Table {
 }
 
 /// That each of these is held in its place.
-fn assert_holds(table: &Table, units: &[Held<Aps>]) {
+pub fn assert_holds(table: &Table, units: &[Held<Aps>]) {
     for Held { header, set } in units {
         let (header, kind, id) = (*header, set.kind(), set.aps_adaptation_parameter_set_id());
         match set.clone() {

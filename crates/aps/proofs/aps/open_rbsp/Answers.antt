@@ -1,5 +1,4 @@
 -- `open_rbsp`: kind, id and chroma flag.
-use Rattle.std.proofs.Common.{rules, ◌≡◌, Err}
 use mathlib.Core.Path.{◌∙◌}
 use native.Mathlib.Omega.{arith}
 use Rattle.aps.specs.ApsSyntax.{aps, aps_syntax}

@@ -3,10 +3,8 @@ use Rattle.std.proofs.Common.{rules, ◌≡◌, Err}
 use mathlib.Core.Path.{sym, ap, ◌∙◌}
 use native.Mathlib.Omega.{arith}
 use borrow.Author.Tests.{leb-true, leb-false}
-use Prim.Native.Nat.{◌≤◌, ◌<◌}
+use Prim.Native.Nat.{◌≤◌}
 use lib.ListN.{length, length-drop}
-use lib.Seq.{length-take-le}
-use Rattle.aps.specs.Unit.{rbsp_of}
 use Rattle.aps.proofs.UnitSteps.{after-header, headed, not-admitted, too-long, unit-refused, unwrapped}
 use Rattle.aps.proofs.unit.rbsp_to_work.Goals as goal
 use Rattle.aps.proofs.unit.rbsp_to_work.Goals.{In_ok-parse_unit_header, Else-not-unescaped_fits}

@@ -2,7 +2,7 @@
 use Rattle.std.proofs.Common.{rules, ◌≡◌, Err}
 use mathlib.Core.Path.{refl, sym, ◌∙◌}
 use mathlib.Core.Bool.{and-false}
-use Rattle.aps.specs.Unit.{is_aps_header, unit_header}
+use Rattle.aps.specs.Unit.{unit_header}
 use Rattle.aps.proofs.unit_header.parse_unit_header.Goals as goal
 
 pub returns-in_err-header : goal.returns-in_err-header

@@ -1,6 +1,6 @@
 -- `head_held`: the place's own set, if it holds one.
-use Rattle.std.specs.Prelude.{Ok, Err, Some, None}
-use mathlib.Core.Path.{◌≡◌, sym, ap, ◌∙◌}
+use Rattle.std.specs.Prelude.{Err, Some, None}
+use mathlib.Core.Path.{◌≡◌, sym, ap}
 use native.Mathlib.Omega.{arith}
 use Rattle.bitstream.specs.declared.Refusal.TheVariants.{EmptyPlace}
 use Rattle.aps.specs.Reading.{head_of}

@@ -9,7 +9,6 @@ use Rattle.aps.specs.Reading.{part_by}
 use Rattle.aps.proofs.Answers.{made, unmade}
 use Rattle.aps_table.specs.Places.{with_header, found_in, under}
 use Rattle.aps_table.specs.Answers.{looked_by}
-use Rattle.aps_table.specs.declared.held_set.HeldSet.{HeldSet}
 use Rattle.aps_table.proofs.PlaceReads.{empty}
 use Rattle.aps_table.proofs.PlaceSteps.{names-of, under-other, under-own}
 use Rattle.aps_table.proofs.HeldSteps.{held-as}

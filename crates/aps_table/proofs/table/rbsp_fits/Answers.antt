@@ -1,11 +1,8 @@
 -- `rbsp_fits`: the header is judged, then the RBSP's length, then the room.
-use mathlib.Core.Path.{sym, ap, ◌∙◌}
+use mathlib.Core.Path.{sym, ap}
 use native.Mathlib.Omega.{arith}
-use borrow.Author.Tests.{leb-true, leb-false}
-use Prim.Native.Nat.{◌≤◌}
 use lib.ListN.{length, length-drop}
 use Rattle.aps.proofs.UnitSteps.{after-header, headed}
-use Rattle.aps_table.proofs.RoomLaws.{room-unread, room-long, room-read}
 use Rattle.aps_table.proofs.table.rbsp_fits.Goals as goal
 
 pub slice_bounds-bytes-count : goal.slice_bounds-bytes-count

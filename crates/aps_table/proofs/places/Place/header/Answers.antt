@@ -1,7 +1,6 @@
 -- `header`: the header that the place's bytes begin with, or that none was read.
-use Rattle.std.specs.Prelude.{Option, None, Some, Result, Ok, Err}
 use Rattle.std.proofs.Common.{rules}
-use mathlib.Core.Path.{◌≡◌, sym, ap, ◌∙◌}
+use mathlib.Core.Path.{ap, ◌∙◌}
 use Rattle.aps.specs.ApsSyntax.{number_of}
 use Rattle.aps.specs.Unit.{unit_header}
 use Rattle.aps_table.specs.Places.{place_bytes}

@@ -1,7 +1,6 @@
 -- `rbsp`: a place has its header's two bytes.
 use mathlib.Core.Path.{ap, ◌∙◌}
 use native.Mathlib.Omega.{arith}
-use Prim.Native.Nat.{◌≤◌}
 use lib.ListN.{length}
 use Rattle.aps.specs.ApsSyntax.{number_of}
 use Rattle.aps_table.proofs.PlaceSteps.{names-of, place-length}
