@@ -1,6 +1,7 @@
 //! A table and a plain model of it get the same calls: every short stream, units and streams around the limits of length, and random
-//! sequences of calls with marks, returns, lookups and cuts in between.
+//! sequences of calls with marks, returns, lookups and cuts in between; and pairs of tables with the lists of both.
 
+mod alike;
 mod long;
 mod make;
 mod marks;
@@ -20,6 +21,7 @@ pub fn compare() -> Vec<Tally> {
     rows.extend(long::units_and_streams(&mut named));
     rows.extend(named.0);
     rows.extend(sequences::random_sequences());
+    rows.extend(alike::alike_lists());
     rows
 }
 

@@ -32,7 +32,7 @@ lookup-agree a b h k i = go (ltb k 3) (leb i (largest_id k)) refl refl
     go true false x y = refl
     go false t x y = refl
 
-agree-alike : (t u : List ℕ) → Agree (held t) (held u) → Alike t u
+pub agree-alike : (t u : List ℕ) → Agree (held t) (held u) → Alike t u
 agree-alike t u h k i n = lookup-agree (held t) (held u) h k i
 
 runs-alike : (ds : List Call) (t u : List ℕ) → length t ≡ table_bytes → length u ≡ table_bytes → Agree (held t) (held u) → Alike (runs ds t) (runs ds u)

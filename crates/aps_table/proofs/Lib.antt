@@ -2,6 +2,7 @@ pub mod BareLaws
 pub mod BookLaws
 pub mod CutLaws
 pub mod Demand3
+pub mod AlikeLists
 pub mod Examples
 pub mod FirstByte
 pub mod HeldSteps

@@ -6,5 +6,6 @@ pub mod Calls
 pub mod List
 pub mod Book
 pub mod Demand3
+pub mod AlikeLists
 pub mod Answers
 pub mod Inner
