@@ -42,6 +42,7 @@ pub mod LmcsWrites
 pub mod IntegerLaws
 pub mod ScalingWrites
 pub mod RbspWrites
+pub mod FitLaws
 pub mod UnitWrites
 pub mod RoundTrips
 pub mod InferredLaws

@@ -11,7 +11,7 @@ use lib.ListN.{length, take, replicate}
 use Rattle.std.proofs.Common.{Result, Ok, Err}
 use Rattle.std.proofs.lemmas.List.{take-replicate}
 use Rattle.std.proofs.lemmas.Result.{err_from_is_err_and}
-use Rattle.std.specs.Result.{IsErrAnd}
+use Rattle.std.specs.Result.{IsErrAnd, is_ok}
 use Rattle.bitstream.specs.Outcome.{Outcome, value, refused, number}
 use Rattle.bitstream.specs.declared.Refusal.{Refusal}
 use Rattle.bitstream.specs.Bits.{put_bits, pack, Holds}
@@ -36,6 +36,20 @@ use Rattle.aps.specs.declared.lmcs.VvcLmcsData.{VvcLmcsData}
 use Rattle.aps.proofs.PackLaws.{pack-is}
 use Rattle.aps.proofs.RbspLaws.{length-rbsp, bits-rbsp}
 use Rattle.aps.proofs.WriterLaws.{wrote-judged, wrote-provided, wrote-via}
+
+-- a set was written exactly where it is one that the writer takes
+pub wrote-taken : (a : VvcAps) (before after : Writer) (r : Result (Unit {0}) Refusal) → Wrote aps a before after r → is_ok r ≡ aps.ok a
+unfolding writes
+wrote-taken a before after (Ok x) w = go (aps.ok a) refl
+  where
+    go : (b : Bool) → aps.ok a ≡ b → true ≡ aps.ok a
+    go true e = sym e
+    go false e = absurd (value-refused (rw e at w.answer))
+wrote-taken a before after (Err n) w = go (aps.ok a) refl
+  where
+    go : (b : Bool) → aps.ok a ≡ b → false ≡ aps.ok a
+    go true e = absurd (value-refused (sym (rw e at w.answer)))
+    go false e = sym e
 
 -- ---- the payload
 

@@ -1,8 +1,8 @@
 -- What the writers put: the bytes of a set as an RBSP and as a unit.
-use Rattle.std.specs.Prelude.{Bool, cond, List, [], ◌∷◌, ◌++◌, ℕ, ◌+◌, ◌*◌, ltb, length}
+use Rattle.std.specs.Prelude.{Bool, false, cond, ◌&&◌, eqb, List, [], ◌∷◌, ◌++◌, ℕ, ◌+◌, ◌*◌, ltb, length}
 use Rattle.bitstream.specs.Outcome.{Outcome, value, refused, ◌then◌}
 use Rattle.bitstream.specs.Escapes.{escape, put_bytes}
-use Rattle.aps.specs.ApsSyntax.{aps, zero_alf, zero_lmcs, zero_scaling}
+use Rattle.aps.specs.ApsSyntax.{aps, number_of, zero_alf, zero_lmcs, zero_scaling}
 use Rattle.aps.specs.Rbsp.{rbsp_bytes}
 use Rattle.aps.specs.Unit.{is_aps_header}
 use Rattle.aps.specs.declared.unit_header.UnitHeader.{UnitHeader}
@@ -27,6 +27,27 @@ bytes_due a = cond a.aps_extension_flag (refused 3) (rbsp_due a)
 -- `write_aps`: 5, the output is shorter than the bytes due, comes last
 unfoldable pub write_aps : VvcAps → List ℕ → Outcome (List ℕ)
 write_aps a out = bytes_due a then λ bytes n. put_bytes out bytes
+
+-- the set with extension flag 0
+unfoldable pub plain : VvcAps → VvcAps
+plain a =
+    record {
+      kind = a.kind;
+      aps_adaptation_parameter_set_id = a.aps_adaptation_parameter_set_id;
+      aps_chroma_present_flag = a.aps_chroma_present_flag;
+      aps_extension_flag = false;
+      alf = a.alf;
+      lmcs = a.lmcs;
+      scaling = a.scaling;
+    }
+
+-- the writer would not refuse the set with 2 were its extension flag 0
+unfoldable pub writable : VvcAps → Bool
+writable a = aps.ok (plain a)
+
+-- the same of a set of a kind; one of another kind does not fit
+unfoldable pub fit : ApsKind → VvcAps → Bool
+fit k a = eqb (number_of a.kind) (number_of k) && writable a
 
 -- a set of one kind alone: the writer does not look at the arrays of the others
 unfoldable pub alf_set : ℕ → Bool → Bool → VvcAlfData → VvcAps

@@ -5,7 +5,7 @@ ghost use Rattle.aps.specs.ApsSyntax as Syntax;
 ghost use Rattle.aps.specs.Kinds.{largest_id};
 ghost use Rattle.bitstream.specs.Outcome.{left, map_outcome, outcome_written};
 ghost use Rattle.aps.specs.Unit.{parse_aps, work_after};
-ghost use Rattle.aps.specs.Writing.{write_aps, write_aps_nal};
+ghost use Rattle.aps.specs.Writing.{fit, write_aps, write_aps_nal};
 ghost use Rattle.aps.specs.Payloads.{alike, alike_nal};
 ghost use Rattle.aps.specs.Inner.{Bare, Passes};
 ghost use Rattle.aps.specs.Rbsp.{read_rbsp, parse_aps_rbsp};
@@ -14,6 +14,7 @@ ghost use Rattle.aps.specs.Writes.{Wrote};
 ghost use Rattle.aps.specs.declared.aps.ApsHead.{ApsHead};
 ghost use Rattle.aps.specs.declared.aps.ApsKind.{ApsKind};
 ghost use Rattle.aps.specs.declared.aps.VvcAps.{VvcAps};
+ghost use Rattle.aps.specs.declared.payload.ApsOf.{ApsOf};
 ghost use Rattle.aps.specs.declared.unit_header.UnitHeader.{UnitHeader};
 
 use crate::alf::VvcAlfData;
@@ -23,7 +24,7 @@ use crate::opened::Opened;
 use crate::scaling_list::VvcScalingListData;
 use crate::unit::rbsp_to_work;
 use crate::unit_header::UnitHeader;
-use crate::write::{copy_out, put_rbsp, write_nal};
+use crate::write::{copy_out, is_taken, put_rbsp, write_nal};
 use crate::writer::Writer;
 use bitstream::Refusal;
 
@@ -35,6 +36,9 @@ pub trait Payload: Copy {
 
     // The set of an id, the two flags and this payload; the writer does not look at the others.
     ghost alone: { ℕ → Bool → Bool → Self → VvcAps };
+
+    // The set of a head and this payload, the arrays of the other kinds 0.
+    ghost whole: { ApsOf Self → VvcAps };
 
     const KIND: ApsKind;
 
@@ -69,6 +73,10 @@ pub trait Payload: Copy {
     ) -> Result<usize, Refusal>
         ensures answer { outcome_written result out.new ≡ write_aps_nal (alone id chroma extension self.now) header out.old }
         ensures bytes { out.new ≡ left out.old (write_aps_nal (alone id chroma extension self.now) header out.old) };
+
+    // Whether it is a set of this kind that the writer would take were its extension flag 0.
+    fn is_writable(set: &ApsOf<Self>) -> bool
+        ensures { result ≡ fit KIND (whole set.now) };
 
     // Sets of its kind with the same payload are written alike.
     ghost alike: { (a : VvcAps) (out : List ℕ) → a.kind ≡ KIND
@@ -131,6 +139,8 @@ impl<P: Coded> Payload for P {
 
     ghost alone = { P.alone };
 
+    ghost whole = { λ s. P.set s.head s.payload };
+
     const KIND: ApsKind = P::KIND;
 
     fn parse_rbsp(bytes: &[u8]) -> Result<Reading<ApsOf<Self>>, Refusal> {
@@ -187,6 +197,18 @@ impl<P: Coded> Payload for P {
         let mut rbsp = Writer::new();
         put_rbsp(&mut rbsp, id, chroma, extension, self)?;
         write_nal(rbsp.bytes(), header, out)
+    }
+
+    fn is_writable(set: &ApsOf<Self>) -> bool {
+        let head = set.head;
+        if head.kind != P::KIND {
+            return false;
+        }
+        is_taken(
+            head.aps_adaptation_parameter_set_id,
+            head.aps_chroma_present_flag,
+            &set.payload,
+        )
     }
 
     ghost alike = { λ a out e. alike _ a out (P.sent_part a e) };

@@ -7,7 +7,7 @@ ghost use Rattle.aps.specs.ApsSyntax.{of_alf, of_lmcs, of_scaling, payload, aps,
 ghost use Rattle.aps.specs.ApsSyntax as Syntax;
 ghost use Rattle.aps.specs.ScalingSyntax.{look};
 ghost use Rattle.aps.specs.Writes.{Wrote, closed};
-ghost use Rattle.aps.specs.Writing.{bytes_due, write_aps, write_nal, write_aps_nal};
+ghost use Rattle.aps.specs.Writing.{bytes_due, writable, write_aps, write_nal, write_aps_nal};
 
 use crate::LONGEST_RBSP;
 use crate::alf::VvcAlfData;
@@ -72,6 +72,27 @@ fn write_rbsp(writer: &mut Writer, set: &VvcAps) -> Result<(), Refusal>
         ApsKind::Alf => put_rbsp(writer, id, chroma, extension, &set.alf),
         ApsKind::Lmcs => put_rbsp(writer, id, chroma, extension, &set.lmcs),
         ApsKind::Scaling => put_rbsp(writer, id, chroma, extension, &set.scaling),
+    }
+}
+
+// Whether the writer takes a set of this payload with extension flag 0: it is asked, and what it puts is dropped.
+pub(crate) fn is_taken<P: Coded>(id: u8, chroma: bool, d: &P) -> bool
+    ensures { (a : VvcAps) → from_aps a ≡ (number_of P.KIND, (id, (chroma, (P.sent chroma d.now, false)))) → result ≡ aps.ok a }
+{
+    let mut writer = Writer::new();
+    put_set(&mut writer, id, chroma, d).is_ok()
+}
+
+// Whether the writer would take a set were its extension flag 0.
+pub fn is_writable(set: &VvcAps) -> bool
+    ensures { result ≡ writable set.now }
+{
+    let id = set.aps_adaptation_parameter_set_id;
+    let chroma = set.aps_chroma_present_flag;
+    match set.kind {
+        ApsKind::Alf => is_taken(id, chroma, &set.alf),
+        ApsKind::Lmcs => is_taken(id, chroma, &set.lmcs),
+        ApsKind::Scaling => is_taken(id, chroma, &set.scaling),
     }
 }
 

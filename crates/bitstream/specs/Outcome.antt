@@ -1,7 +1,7 @@
 -- What a call answers: a value with the place after it, or a refusal's number .
 use Rattle.std.specs.Prelude.{ℕ, List, Result, Ok, Err}
 use Rattle.bitstream.specs.declared.Refusal.{Refusal}
-use Rattle.bitstream.specs.declared.Refusal.TheVariants.{UnexpectedEnd, InvalidData, Unsupported, InputTooLong, OutputTooShort, EmptyPlace, MarkNotSet}
+use Rattle.bitstream.specs.declared.Refusal.TheVariants.{UnexpectedEnd, InvalidData, Unsupported, InputTooLong, OutputTooShort, EmptyPlace, DepthOutOfRange, NotSent, ZeroFactor, CodewordOutOfRange, CodewordsTooLarge, SampleOutOfRange, ZeroElement, MarkNotSet}
 
 -- the place after a field is a bit; after bytes that were written, a byte
 pub data Outcome (A : Type 0) : Type 0 where
@@ -16,6 +16,13 @@ number Unsupported = 3
 number InputTooLong = 4
 number OutputTooShort = 5
 number EmptyPlace = 6
+number DepthOutOfRange = 7
+number NotSent = 8
+number ZeroFactor = 9
+number CodewordOutOfRange = 10
+number CodewordsTooLarge = 11
+number SampleOutOfRange = 12
+number ZeroElement = 13
 number MarkNotSet = 14
 
 abbrev pub map_outcome : {A B : Type 0} → (A → B) → Outcome A → Outcome B

@@ -18,7 +18,7 @@ pub const LONGEST_INPUT: usize = 65536;
 // The last bit at which a field may start.
 pub const LAST_START: usize = 1048576;
 
-// Why a call refuses: the numbers 1 to 6, in order, and 14.
+// Why a call refuses: the numbers 1 to 14, in order.
 #[derive(Clone, Copy, Debug, PartialEq, Eq)]
 pub enum Refusal {
     UnexpectedEnd,
@@ -27,6 +27,13 @@ pub enum Refusal {
     InputTooLong,
     OutputTooShort,
     EmptyPlace,
+    DepthOutOfRange,
+    NotSent,
+    ZeroFactor,
+    CodewordOutOfRange,
+    CodewordsTooLarge,
+    SampleOutOfRange,
+    ZeroElement,
     MarkNotSet,
 }
 
@@ -42,6 +49,13 @@ impl From<Refusal> for u32 {
             Refusal::InputTooLong => 4,
             Refusal::OutputTooShort => 5,
             Refusal::EmptyPlace => 6,
+            Refusal::DepthOutOfRange => 7,
+            Refusal::NotSent => 8,
+            Refusal::ZeroFactor => 9,
+            Refusal::CodewordOutOfRange => 10,
+            Refusal::CodewordsTooLarge => 11,
+            Refusal::SampleOutOfRange => 12,
+            Refusal::ZeroElement => 13,
             Refusal::MarkNotSet => 14,
         }
     }
