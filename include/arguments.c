@@ -1418,6 +1418,61 @@ static void random_marks(void)
 }
 
 /* A struct of random bytes, or a full one with one, its flags mostly 0 or 1: refused, or written and read again. */
+/* What a call on a set's meaning gave: the number that is due or, where that is 0, 0; after a refusal all is as it was. */
+static void given(const char *what, uint32_t code, uint32_t due, const void *lent, size_t size)
+{
+    check(what, code, due);
+    check("nothing of it", code == 0 || untouched(lent, 0, size), 1);
+}
+
+/* A number for a depth, a filter, an id or a sample: those that are taken, their neighbours and any. */
+static uint32_t any_number(size_t end)
+{
+    return below(8) ? (uint32_t)below(end) : (uint32_t)(seed >> 32);
+}
+
+static void filters_of(const aps_alf *set, int is_writable)
+{
+    aps_luma_filters *luma = (void *)lend(sizeof *luma);
+    aps_chroma_filters *chroma = (void *)lend(sizeof *chroma);
+    aps_cc_filters *cb = (void *)lend(sizeof *cb), *cr = (void *)lend(sizeof *cr);
+    aps_luma_weights *weights = (void *)lend(sizeof *weights);
+    uint32_t depth = any_number(15), filter = any_number(27);
+    uint32_t due = !is_writable ? APS_INVALID_DATA : depth < 8 || depth > 12 ? APS_DEPTH_OUT_OF_RANGE : 0;
+    uint32_t due_weights = !is_writable || filter > 24 ? APS_INVALID_DATA : 0;
+
+#define SENT(due, flag) ((due) ? (due) : (flag) ? 0 : (uint32_t)APS_NOT_SENT)
+    given("luma", aps_alf_luma_filters(set, depth, luma), SENT(due, set->alf_luma_filter_signal_flag), luma, sizeof *luma);
+    given("chroma", aps_alf_chroma_filters(set, depth, chroma), SENT(due, set->alf_chroma_filter_signal_flag), chroma,
+          sizeof *chroma);
+    given("Cb", aps_alf_cb_filters(set, depth, cb), SENT(due, set->alf_cc_cb_filter_signal_flag), cb, sizeof *cb);
+    given("Cr", aps_alf_cr_filters(set, depth, cr), SENT(due, set->alf_cc_cr_filter_signal_flag), cr, sizeof *cr);
+    given("weights", aps_alf_luma_weights(set, filter, weights), SENT(due_weights, set->alf_luma_filter_signal_flag), weights,
+          sizeof *weights);
+#undef SENT
+    free(luma);
+    free(chroma);
+    free(cb);
+    free(cr);
+    free(weights);
+}
+
+/* What a set of any bytes means: a set that is not written with extension flag 0 gets 2, but for one that is too long. */
+static void meaning(const calls *k, const uint8_t *set)
+{
+    uint8_t *plain = lend_copy(set, k->size), *out = lend(ROOM);
+    uint64_t len[1] = {77};
+    int is_writable;
+
+    plain[k->extension] = 0;
+    is_writable = are_flags(k, set) && k->write(plain, out, ROOM, len) != APS_INVALID_DATA;
+    if (k->kind == APS_ALF) {
+        filters_of((const void *)set, is_writable);
+    }
+    free(plain);
+    free(out);
+}
+
 static void random_set(const calls *k, const void *full_set)
 {
     uint8_t *set = lend_copy(full_set, k->size), *out = lend(ROOM), *again = lend(k->size);
@@ -1451,6 +1506,8 @@ static void random_set(const calls *k, const void *full_set)
         check("to its end", (long long)end[0], (long long)len[0] * 8);
         read_rbsp(out, len[0]);
     }
+    meaning(k, set);
+    meaning(k, full_set);
     write_all(k, set, code);
     write_unit(k, set, (aps_unit_header){(uint8_t)below(256), (uint8_t)below(256), (uint8_t)below(256)}, code);
     write_unit(k, set, (aps_unit_header){(uint8_t)(16 + below(4)), (uint8_t)below(64), (uint8_t)below(9)}, code);

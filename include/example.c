@@ -114,6 +114,27 @@ static void one_set(void)
     check("four bytes", len[0], 4);
 }
 
+/* A luma filter of one row for all: its coefficients, its clips at 10 bits and its weights; 7 and 8. */
+static void filters(void)
+{
+    static aps_luma_filters luma;
+    aps_chroma_filters chroma;
+    aps_luma_weights weights;
+
+    memset(&alf, 0, sizeof alf);
+    alf.alf_luma_filter_signal_flag = 1;
+    alf.alf_luma_coeff_abs[0][1] = 64;
+    alf.alf_luma_coeff_sign[0][1] = 1;
+    check("luma filters", aps_alf_luma_filters(&alf, 10, &luma), 0);
+    check("a coefficient", luma.coefficients[24][1] == -64, 1);
+    check("a clip", luma.clips[24][1], 1024);
+    check("weights", aps_alf_luma_weights(&alf, 24, &weights), 0);
+    check("exact", weights.taps[1] == -0.5f && weights.centre == 2.0f, 1);
+    check("a depth of 7", aps_alf_luma_filters(&alf, 7, &luma), APS_DEPTH_OUT_OF_RANGE);
+    check("no chroma", aps_alf_chroma_filters(&alf, 10, &chroma), APS_NOT_SENT);
+    check("filter 25", aps_alf_luma_weights(&alf, 25, &weights), APS_INVALID_DATA);
+}
+
 /* A unit whose RBSP has 2,048 bytes, a small set and what follows it, and then one more. */
 static void longest_rbsp(void)
 {
@@ -177,6 +198,7 @@ int main(void)
     sets_in_force();
     a_mark();
     one_set();
+    filters();
     longest_rbsp();
     refused();
     if (failures == 0) {

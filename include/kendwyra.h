@@ -22,7 +22,14 @@ enum {
     APS_INPUT_TOO_LONG = 4,   /* an input over 65,536 bytes; a set's RBSP over 2,048, read or written */
     APS_OUTPUT_TOO_SHORT = 5, /* a work buffer or an output that is too short */
     APS_EMPTY_PLACE = 6,      /* the lookup of an empty place */
-    APS_MARK_NOT_SET = 14     /* going back to a mark that was never set */
+    APS_DEPTH_OUT_OF_RANGE = 7,     /* a bit depth outside 8 to 12 */
+    APS_NOT_SENT = 8,               /* a component that was not sent */
+    APS_ZERO_FACTOR = 9,            /* scaling lists with a factor or a DC of 0 */
+    APS_CODEWORD_OUT_OF_RANGE = 10, /* a codeword of a luma curve that is too small or too large */
+    APS_CODEWORDS_TOO_LARGE = 11,   /* codewords whose sum reaches 2 to the power of the depth */
+    APS_SAMPLE_OUT_OF_RANGE = 12,   /* a sample of 2 to the power of the depth or more; a lower end above the upper */
+    APS_ZERO_ELEMENT = 13,          /* H.265 lists with an element of 0 */
+    APS_MARK_NOT_SET = 14           /* going back to a mark that was never set */
 };
 
 /* What aps_take_unit answers for a unit of another type than 17 or 18. */
@@ -202,6 +209,41 @@ uint32_t aps_scaling_end(const uint8_t *bytes, size_t len, uint64_t end[1]);
 uint32_t aps_alf_rewrite(const uint8_t *bytes, size_t len, uint8_t *out, size_t room, uint64_t written[1]);
 uint32_t aps_lmcs_rewrite(const uint8_t *bytes, size_t len, uint8_t *out, size_t room, uint64_t written[1]);
 uint32_t aps_scaling_rewrite(const uint8_t *bytes, size_t len, uint8_t *out, size_t room, uint64_t written[1]);
+
+/* ---- what a set means. Every call refuses with 2 first a set that could not be written were its extension flag 0, and a
+ * flag that is neither 0 nor 1; a set with extension flag 1 is served. Then its own refusals, in the order that is said. */
+
+/* The filters of an ALF set as they act (H.266 7.4.3.18). Rows past count are 0. */
+typedef struct aps_luma_filters {
+    int32_t coefficients[25][12]; /* AlfCoeffL: of each filter, the row that its index names */
+    uint32_t clips[25][12];       /* AlfClipL */
+} aps_luma_filters;
+
+typedef struct aps_chroma_filters {
+    uint32_t count; /* alternatives that were sent */
+    int32_t coefficients[8][6];
+    uint32_t clips[8][6];
+} aps_chroma_filters;
+
+typedef struct aps_cc_filters {
+    uint32_t count; /* filters that were sent */
+    int32_t coefficients[4][7];
+} aps_cc_filters;
+
+/* One luma filter for a shader: its coefficients over 128, and 1 minus twice their sum; every one is exact. */
+typedef struct aps_luma_weights {
+    float taps[12];
+    float centre;
+} aps_luma_weights;
+
+/* A component of an ALF set at a bit depth. 7: a depth outside 8 to 12; 8: the component was not sent. */
+uint32_t aps_alf_luma_filters(const aps_alf *set, uint32_t depth, aps_luma_filters *filters);
+uint32_t aps_alf_chroma_filters(const aps_alf *set, uint32_t depth, aps_chroma_filters *filters);
+uint32_t aps_alf_cb_filters(const aps_alf *set, uint32_t depth, aps_cc_filters *filters);
+uint32_t aps_alf_cr_filters(const aps_alf *set, uint32_t depth, aps_cc_filters *filters);
+
+/* The weights of a luma filter. 2: a number above 24; 8. */
+uint32_t aps_alf_luma_weights(const aps_alf *set, uint32_t filter, aps_luma_weights *weights);
 
 /* ---- escapes */
 

@@ -1,6 +1,7 @@
 //! What each call must answer: the Rust's answer where `document` has no refusal, else that refusal's number, and 1 for a set that ends
 //! too early.
 
+pub mod meanings;
 pub mod sets;
 pub mod short;
 pub mod table;

@@ -1,6 +1,7 @@
 //! The proved library's calls.
 
 pub mod marks;
+pub mod meanings;
 pub mod sets;
 pub mod structs;
 pub mod table;

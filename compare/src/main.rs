@@ -9,6 +9,7 @@ mod calls;
 mod escapes;
 mod expected;
 mod fields;
+mod filters;
 mod headers;
 mod library;
 mod random;
@@ -33,7 +34,7 @@ fn main() -> ExitCode {
     }
     if parts.is_empty() {
         parts = [
-            "fields", "escapes", "sets", "written", "records", "table", "calls", "speed",
+            "fields", "escapes", "sets", "written", "records", "table", "filters", "calls", "speed",
         ]
         .map(String::from)
         .to_vec();
@@ -49,10 +50,11 @@ fn main() -> ExitCode {
             "written" => rows.extend(written::compare()),
             "records" => rows.push(records::compare()),
             "table" => rows.extend(table::compare()),
+            "filters" => rows.extend(filters::compare()),
             "calls" => calls = calls::compare(),
             "speed" => times = speed::measure(),
             _ => {
-                eprintln!("no part {part}: fields, escapes, sets, written, records, table, calls, speed, boundaries, sample or replay");
+                eprintln!("no part {part}: fields, escapes, sets, written, records, table, filters, calls, speed, boundaries, sample or replay");
                 return ExitCode::from(2);
             }
         }
@@ -61,7 +63,11 @@ fn main() -> ExitCode {
     speed::print(&times);
     calls::print(&calls);
     let answers = calls.iter().map(|row| &row.answers);
-    if rows.iter().chain(answers).any(|row| row.differences > 0 || row.cases == 0) {
+    if rows
+        .iter()
+        .chain(answers)
+        .any(|row| row.differences > 0 || row.cases == 0)
+    {
         return ExitCode::FAILURE;
     }
     ExitCode::SUCCESS

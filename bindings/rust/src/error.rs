@@ -18,12 +18,26 @@ pub enum Refusal {
     OutputTooShort = 5,
     /// The lookup of an empty place.
     EmptyPlace = 6,
+    /// A bit depth outside 8 to 12.
+    DepthOutOfRange = 7,
+    /// A component that was not sent.
+    NotSent = 8,
+    /// Scaling lists with a factor or a DC of 0.
+    ZeroFactor = 9,
+    /// A codeword of a luma curve, with or without the chroma delta, that is too small or too large.
+    CodewordOutOfRange = 10,
+    /// Codewords of a luma curve whose sum reaches 2 to the power of the bit depth.
+    CodewordsTooLarge = 11,
+    /// A sample of 2 to the power of the bit depth or more, or a lower end above the upper.
+    SampleOutOfRange = 12,
+    /// H.265 lists with an element of 0.
+    ZeroElement = 13,
     /// Going back to a mark that was never set.
     MarkNotSet = 14,
 }
 
 impl Refusal {
-    /// Its number, 1 to 6 or 14.
+    /// Its number, 1 to 14.
     pub const fn number(self) -> u32 {
         self as u32
     }
@@ -37,6 +51,13 @@ impl Refusal {
             4 => Some(Refusal::InputTooLong),
             5 => Some(Refusal::OutputTooShort),
             6 => Some(Refusal::EmptyPlace),
+            7 => Some(Refusal::DepthOutOfRange),
+            8 => Some(Refusal::NotSent),
+            9 => Some(Refusal::ZeroFactor),
+            10 => Some(Refusal::CodewordOutOfRange),
+            11 => Some(Refusal::CodewordsTooLarge),
+            12 => Some(Refusal::SampleOutOfRange),
+            13 => Some(Refusal::ZeroElement),
             14 => Some(Refusal::MarkNotSet),
             _ => None,
         }
@@ -54,6 +75,13 @@ impl fmt::Display for Refusal {
             Refusal::InputTooLong => "the input is over 65,536 bytes, or the set's RBSP over 2,048",
             Refusal::OutputTooShort => "the output or the work buffer is too short",
             Refusal::EmptyPlace => "no set is held for this kind and id",
+            Refusal::DepthOutOfRange => "the bit depth is outside 8 to 12",
+            Refusal::NotSent => "the set does not send this component",
+            Refusal::ZeroFactor => "a scaling factor or DC of the set is 0",
+            Refusal::CodewordOutOfRange => "a codeword of the curve is too small or too large",
+            Refusal::CodewordsTooLarge => "the codewords of the curve are too large together",
+            Refusal::SampleOutOfRange => "a sample is too large, or a range's lower end above its upper",
+            Refusal::ZeroElement => "an element of the H.265 lists is 0",
             Refusal::MarkNotSet => "the mark to go back to was never set",
         })
     }

@@ -38,12 +38,14 @@
 
 pub mod error;
 pub mod escapes;
+pub mod filters;
 pub mod marks;
 pub mod raw;
 pub mod sets;
 pub mod table;
 
 pub use error::Refusal;
+pub use filters::{CcFilters, ChromaFilters, LumaFilters, LumaWeights};
 pub use marks::Marks;
 pub use sets::{Alf, Aps, Head, Kind, Lmcs, Scaling, UnitHeader};
 pub use table::{Counts, Held, Table, Taken};

@@ -7,6 +7,7 @@
 //! nothing else that is lent. A pointer to a set is that of memory as large and as aligned as the set, readable or writable too; a set that is
 //! written out may be any bytes, flags other than 0 and 1 with them. Any bytes are some table, and any are some marks.
 
+use crate::filters::{CcFilters, ChromaFilters, LumaFilters, LumaWeights};
 use crate::sets::{Alf, Head, Lmcs, Scaling, UnitHeader};
 use crate::{MARKS_BYTES, TABLE_BYTES};
 
@@ -106,6 +107,21 @@ extern "C" {
 
     /// The scaling set of an RBSP written again.
     pub fn aps_scaling_rewrite(bytes: *const u8, len: usize, out: *mut u8, room: usize, written: &mut u64) -> u32;
+
+    /// The luma filters of an ALF set at a bit depth.
+    pub fn aps_alf_luma_filters(set: *const Alf, depth: u32, filters: *mut LumaFilters) -> u32;
+
+    /// Its chroma filters.
+    pub fn aps_alf_chroma_filters(set: *const Alf, depth: u32, filters: *mut ChromaFilters) -> u32;
+
+    /// Its filters of Cb.
+    pub fn aps_alf_cb_filters(set: *const Alf, depth: u32, filters: *mut CcFilters) -> u32;
+
+    /// Its filters of Cr.
+    pub fn aps_alf_cr_filters(set: *const Alf, depth: u32, filters: *mut CcFilters) -> u32;
+
+    /// One luma filter of it as weights.
+    pub fn aps_alf_luma_weights(set: *const Alf, filter: u32, weights: *mut LumaWeights) -> u32;
 
     /// Escapes removed.
     pub fn aps_ebsp_to_rbsp(src: *const u8, len: usize, out: *mut u8, room: usize, written: &mut u64) -> u32;

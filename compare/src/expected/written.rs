@@ -137,7 +137,7 @@ impl Fields<'_> {
 }
 
 /// The Rust's record of the numbers.
-fn record(numbers: &[i64]) -> VvcAps {
+pub fn record(numbers: &[i64]) -> VvcAps {
     let mut f = Fields(numbers);
     let [kind, id, chroma, extension] = f.array(|n| n as u8);
     VvcAps {

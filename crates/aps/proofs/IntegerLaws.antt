@@ -27,7 +27,7 @@ same-i32 v w f g = go (eq_z v w) refl
         never_true (sym e ∙ rw same (just-is w).itself)
 
 -- a number and its negation have the same size
-neg-abs : (z : ℤ) → nat_abs (neg_ℤ z) ≡ nat_abs z
+pub neg-abs : (z : ℤ) → nat_abs (neg_ℤ z) ≡ nat_abs z
 neg-abs (pos zero) = refl
 neg-abs (pos (suc n)) = refl
 neg-abs (negsuc n) = refl

@@ -31,12 +31,12 @@ sums-length id i (suc n) prev (v ∷ l) o =
     ap suc (sums-length id (suc i) n v l (and_right ((when (not (skipped id i)) (just prev) (step prev)).ok v) ((sums id (suc i) n v).ok l) a))
 
 module _ {A : Type 0} where
-  length-tabulate : (i n : ℕ) (f : ℕ → A) → length (tabulate i n f) ≡ n
+  pub length-tabulate : (i n : ℕ) (f : ℕ → A) → length (tabulate i n f) ≡ n
   length-tabulate i zero f = refl
   length-tabulate i (suc n) f = ap suc (length-tabulate (suc i) n f)
 
   -- entry j of a table from i on
-  tabulate-at : (i n : ℕ) (f : ℕ → A) (j : ℕ) (d : A) → j < n → get_or (tabulate i n f) j d ≡ f (i + j)
+  pub tabulate-at : (i n : ℕ) (f : ℕ → A) (j : ℕ) (d : A) → j < n → get_or (tabulate i n f) j d ≡ f (i + j)
   tabulate-at i zero f j d h = absurd (omega arith)
   tabulate-at i (suc n) f zero d h = rw (add-zero i)
   tabulate-at i (suc n) f (suc j) d h = tabulate-at (suc i) n f j d (omega arith) ∙ rw (suc-add i j, add-suc i j)

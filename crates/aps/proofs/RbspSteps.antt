@@ -21,7 +21,8 @@ use Rattle.std.specs.Prelude.{Result}
 use Rattle.std.specs.Result.{IsErrAnd}
 use Rattle.std.proofs.lemmas.Result.{err_from_is_err_and}
 use Rattle.aps.specs.declared.aps.ApsHead.{ApsHead}
-use Rattle.aps.specs.Inner.{Opens, set_of, with_extension, ended, finished, assembled, extended}
+use Rattle.aps.specs.Inner.{Opens, set_of, with_extension, ended, finished, extended}
+use Rattle.aps.specs.Reading.{assembled}
 use Rattle.aps.specs.Heading.{Headed}
 use Rattle.aps.specs.Rbsp.{closed, read_rbsp, parse_aps_rbsp}
 use Rattle.aps.specs.declared.alf.VvcAlfData.{VvcAlfData}

@@ -75,19 +75,6 @@ chroma_of clip count-1 abs sign clips =
 abbrev pub cc_of : ℕ → List ℕ → List Bool → VvcAlfCcFilters
 cc_of count-1 abs sign = to_cc (count-1, (abs, sign))
 
--- a set put together from its head and its arrays
-abbrev pub assembled : ApsHead → VvcAlfData → VvcLmcsData → VvcScalingListData → VvcAps
-assembled h d l s =
-    record {
-      kind = h.kind;
-      aps_adaptation_parameter_set_id = h.aps_adaptation_parameter_set_id;
-      aps_chroma_present_flag = h.aps_chroma_present_flag;
-      aps_extension_flag = h.aps_extension_flag;
-      alf = d;
-      lmcs = l;
-      scaling = s;
-    }
-
 -- the head with the extension flag read
 abbrev pub extended : ApsHead → Bool → ApsHead
 extended h x =

@@ -11,7 +11,8 @@ use Rattle.aps.specs.Rbsp.{rbsp_bits, rbsp_bytes}
 use Rattle.aps.specs.ScalingSyntax.{look}
 use Rattle.aps.specs.Unit.{is_aps_header}
 use Rattle.aps.specs.Writing.{not_long, rbsp_due, bytes_due, alf_set, lmcs_set, scaling_set, unit_of, write_aps, write_aps_nal}
-use Rattle.aps.specs.Inner.{assembled, Bare}
+use Rattle.aps.specs.Inner.{Bare}
+use Rattle.aps.specs.Reading.{assembled}
 use Rattle.aps.specs.declared.alf.VvcAlfData.{VvcAlfData}
 use Rattle.aps.specs.declared.lmcs.VvcLmcsData.{VvcLmcsData}
 use Rattle.aps.specs.declared.scaling_list.VvcScalingListData.{VvcScalingListData}
@@ -45,6 +46,22 @@ pub other_scaling : (k : ApsKind) (a : VvcAps) → Bare k a → (k ≡ ApsKind.S
 other_scaling ApsKind.Alf a b n = b.1
 other_scaling ApsKind.Lmcs a b n = b.1
 other_scaling ApsKind.Scaling a b n = absurd (n refl)
+
+-- the set of a head of its own kind is the one of its kind alone
+pub own_alf : (h : ApsHead) (d : VvcAlfData) → h.kind ≡ ApsKind.Alf
+    → assembled h d zero_lmcs zero_scaling ≡ alf_set h.aps_adaptation_parameter_set_id h.aps_chroma_present_flag h.aps_extension_flag d
+unfolding alf_set
+own_alf h d e = rw e refl
+
+pub own_lmcs : (h : ApsHead) (d : VvcLmcsData) → h.kind ≡ ApsKind.Lmcs
+    → assembled h zero_alf d zero_scaling ≡ lmcs_set h.aps_adaptation_parameter_set_id h.aps_chroma_present_flag h.aps_extension_flag d
+unfolding lmcs_set
+own_lmcs h d e = rw e refl
+
+pub own_scaling : (h : ApsHead) (d : VvcScalingListData) → h.kind ≡ ApsKind.Scaling
+    → assembled h zero_alf zero_lmcs d ≡ scaling_set h.aps_adaptation_parameter_set_id h.aps_chroma_present_flag h.aps_extension_flag d
+unfolding scaling_set
+own_scaling h d e = rw e refl
 
 -- what is sent of a set with the arrays of one kind alone
 pub alone_alf : (id : ℕ) (chroma extension : Bool) (d : VvcAlfData) → from_aps (alf_set id chroma extension d) ≡ (0, (id, (chroma, (of_alf d, extension))))

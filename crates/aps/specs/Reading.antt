@@ -4,6 +4,9 @@ use Rattle.bitstream.specs.Outcome.{Outcome, value, refused, number}
 use Rattle.bitstream.specs.declared.Refusal.{Refusal}
 use Rattle.bitstream.specs.declared.Refusal.TheVariants.{Unsupported}
 use Rattle.aps.specs.ApsSyntax.{number_of}
+use Rattle.aps.specs.declared.alf.VvcAlfData.{VvcAlfData}
+use Rattle.aps.specs.declared.lmcs.VvcLmcsData.{VvcLmcsData}
+use Rattle.aps.specs.declared.scaling_list.VvcScalingListData.{VvcScalingListData}
 use Rattle.aps.specs.declared.aps.VvcAps.{VvcAps}
 use Rattle.aps.specs.declared.aps.Reading.{Reading}
 use Rattle.aps.specs.declared.aps.ApsHead.{ApsHead}
@@ -32,3 +35,16 @@ head_of a =
 -- a set with one part of it alone
 abbrev pub part_by : {P : Type 0} → (VvcAps → P) → VvcAps → ApsOf P
 part_by part a = record { head = head_of a; payload = part a }
+
+-- a set put together from its head and its arrays
+abbrev pub assembled : ApsHead → VvcAlfData → VvcLmcsData → VvcScalingListData → VvcAps
+assembled h d l s =
+    record {
+      kind = h.kind;
+      aps_adaptation_parameter_set_id = h.aps_adaptation_parameter_set_id;
+      aps_chroma_present_flag = h.aps_chroma_present_flag;
+      aps_extension_flag = h.aps_extension_flag;
+      alf = d;
+      lmcs = l;
+      scaling = s;
+    }

@@ -4,6 +4,7 @@ use Rattle.bitstream.specs.Outcome.{Outcome, value, refused, ◌then◌}
 use Rattle.bitstream.specs.Escapes.{escape, put_bytes}
 use Rattle.aps.specs.ApsSyntax.{aps, number_of, zero_alf, zero_lmcs, zero_scaling}
 use Rattle.aps.specs.Rbsp.{rbsp_bytes}
+use Rattle.aps.specs.Reading.{assembled}
 use Rattle.aps.specs.Unit.{is_aps_header}
 use Rattle.aps.specs.declared.unit_header.UnitHeader.{UnitHeader}
 use Rattle.aps.specs.declared.alf.VvcAlfData.{VvcAlfData}
@@ -11,6 +12,7 @@ use Rattle.aps.specs.declared.lmcs.VvcLmcsData.{VvcLmcsData}
 use Rattle.aps.specs.declared.scaling_list.VvcScalingListData.{VvcScalingListData}
 use Rattle.aps.specs.declared.aps.ApsKind.{ApsKind}
 use Rattle.aps.specs.declared.aps.VvcAps.{VvcAps}
+use Rattle.aps.specs.declared.payload.ApsOf.{ApsOf}
 
 -- bytes that are not over 2,048; 4: they are
 unfoldable pub not_long : List ℕ → Outcome (List ℕ)
@@ -85,6 +87,16 @@ scaling_set id chroma extension d =
       lmcs = zero_lmcs;
       scaling = d;
     }
+
+-- the set of a head and the record of one kind
+abbrev pub whole_alf : ApsOf VvcAlfData → VvcAps
+whole_alf s = assembled s.head s.payload zero_lmcs zero_scaling
+
+abbrev pub whole_lmcs : ApsOf VvcLmcsData → VvcAps
+whole_lmcs s = assembled s.head zero_alf s.payload zero_scaling
+
+abbrev pub whole_scaling : ApsOf VvcScalingListData → VvcAps
+whole_scaling s = assembled s.head zero_alf zero_lmcs s.payload
 
 -- a header's two bytes, forbidden_zero_bit and nuh_reserved_zero_bit 0
 abbrev pub header_bytes : UnitHeader → List ℕ

@@ -1,7 +1,7 @@
 // A set of loop filters.
 ghost use Rattle.std.specs.Prelude.{◌≡◌, refl};
-ghost use Rattle.aps.specs.Inner.{assembled};
-ghost use Rattle.aps.specs.Payloads.{bare_alf, other_alf, alone_alf, sent_alf};
+ghost use Rattle.aps.specs.Reading.{assembled};
+ghost use Rattle.aps.specs.Payloads.{bare_alf, other_alf, own_alf, alone_alf, sent_alf};
 ghost use Rattle.aps.specs.ApsSyntax.{of_alf, zero_alf, zero_lmcs, zero_scaling};
 ghost use Rattle.aps.specs.declared.aps.ApsKind.{ApsKind};
 ghost use Rattle.aps.specs.Writing.{alf_set};
@@ -54,6 +54,8 @@ impl Coded for VvcAlfData {
     ghost bare = { bare_alf };
 
     ghost other = { other_alf };
+
+    ghost own = { own_alf };
 
     ghost sent_alone = { alone_alf };
 

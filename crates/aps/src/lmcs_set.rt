@@ -1,7 +1,7 @@
 // A set of the luma curve.
 ghost use Rattle.std.specs.Prelude.{◌≡◌, refl};
-ghost use Rattle.aps.specs.Inner.{assembled};
-ghost use Rattle.aps.specs.Payloads.{bare_lmcs, other_lmcs, alone_lmcs, sent_lmcs};
+ghost use Rattle.aps.specs.Reading.{assembled};
+ghost use Rattle.aps.specs.Payloads.{bare_lmcs, other_lmcs, own_lmcs, alone_lmcs, sent_lmcs};
 ghost use Rattle.aps.specs.ApsSyntax.{of_lmcs, zero_alf, zero_lmcs, zero_scaling};
 ghost use Rattle.aps.specs.declared.aps.ApsKind.{ApsKind};
 ghost use Rattle.aps.specs.Writing.{lmcs_set};
@@ -54,6 +54,8 @@ impl Coded for VvcLmcsData {
     ghost bare = { bare_lmcs };
 
     ghost other = { other_lmcs };
+
+    ghost own = { own_lmcs };
 
     ghost sent_alone = { alone_lmcs };
 

@@ -78,6 +78,10 @@ pub trait Payload: Copy {
     fn is_writable(set: &ApsOf<Self>) -> bool
         ensures { result ≡ fit KIND (whole set.now) };
 
+    // A set of its kind is the set of its id, flags and payload.
+    ghost own_whole: { (s : ApsOf Self) → s.head.kind ≡ KIND
+        → whole s ≡ alone s.head.aps_adaptation_parameter_set_id s.head.aps_chroma_present_flag s.head.aps_extension_flag s.payload };
+
     // Sets of its kind with the same payload are written alike.
     ghost alike: { (a : VvcAps) (out : List ℕ) → a.kind ≡ KIND
         → write_aps (alone a.aps_adaptation_parameter_set_id a.aps_chroma_present_flag a.aps_extension_flag (part a)) out ≡ write_aps a out };
@@ -126,6 +130,8 @@ pub(crate) trait Coded: Copy + Default {
     ghost bare: { (kind : ApsKind) (h : ApsHead) (p : Self) → kind ≡ KIND → Bare kind (set h p) };
 
     ghost other: { (kind : ApsKind) (a : VvcAps) → Bare kind a → (kind ≡ KIND → ⊥) → part a ≡ none };
+
+    ghost own: { (h : ApsHead) (p : Self) → h.kind ≡ KIND → set h p ≡ alone h.aps_adaptation_parameter_set_id h.aps_chroma_present_flag h.aps_extension_flag p };
 
     ghost sent_alone: { (id : ℕ) (chroma extension : Bool) (p : Self) → from_aps (alone id chroma extension p) ≡ (number_of KIND, (id, (chroma, (sent chroma p, extension)))) };
 
@@ -210,6 +216,8 @@ impl<P: Coded> Payload for P {
             &set.payload,
         )
     }
+
+    ghost own_whole = { λ s e. P.own s.head s.payload e };
 
     ghost alike = { λ a out e. alike _ a out (P.sent_part a e) };
 

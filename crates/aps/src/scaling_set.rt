@@ -1,7 +1,7 @@
 // A set of scaling lists.
 ghost use Rattle.std.specs.Prelude.{◌≡◌, refl};
-ghost use Rattle.aps.specs.Inner.{assembled};
-ghost use Rattle.aps.specs.Payloads.{bare_scaling, other_scaling, alone_scaling, sent_scaling};
+ghost use Rattle.aps.specs.Reading.{assembled};
+ghost use Rattle.aps.specs.Payloads.{bare_scaling, other_scaling, own_scaling, alone_scaling, sent_scaling};
 ghost use Rattle.aps.specs.ApsSyntax.{of_scaling, zero_alf, zero_lmcs, zero_scaling};
 ghost use Rattle.aps.specs.declared.aps.ApsKind.{ApsKind};
 ghost use Rattle.aps.specs.Writing.{scaling_set};
@@ -56,6 +56,8 @@ impl Coded for VvcScalingListData {
     ghost bare = { bare_scaling };
 
     ghost other = { other_scaling };
+
+    ghost own = { own_scaling };
 
     ghost sent_alone = { alone_scaling };
 

@@ -25,6 +25,11 @@ number SampleOutOfRange = 12
 number ZeroElement = 13
 number MarkNotSet = 14
 
+-- an answer that has no place: a value, or a refusal's number
+abbrev pub numbered : {A : Type 0} → Result A Refusal → Result A ℕ
+numbered (Ok x) = Ok x
+numbered (Err e) = Err (number e)
+
 abbrev pub map_outcome : {A B : Type 0} → (A → B) → Outcome A → Outcome B
 map_outcome f (value a p) = value (f a) p
 map_outcome f (refused e) = refused e

@@ -1,5 +1,5 @@
 -- What an export returns for an outcome, and what it leaves in what is lent for the answer.
-use Rattle.std.specs.Prelude.{ℕ, Bool, cond, List, [], ◌∷◌, eqb, set}
+use Rattle.std.specs.Prelude.{ℕ, Bool, cond, List, [], ◌∷◌, eqb, set, Result, Ok, Err}
 use Rattle.std.proofs.lemmas.List.Edits.{sets}
 use Rattle.bitstream.specs.Outcome.{Outcome, value, refused, ◌then◌}
 use Rattle.aps.specs.ApsSyntax.{number_of}
@@ -27,6 +27,19 @@ value_left (refused e) before = before
 unfoldable pub place_left : {A : Type 0} → Outcome A → List ℕ → List ℕ
 place_left (value a p) before = set before 0 p
 place_left (refused e) before = before
+
+-- the same of an answer that has no place
+unfoldable pub result_code : {A : Type 0} → Result A ℕ → ℕ
+result_code (Ok x) = 0
+result_code (Err n) = n
+
+unfoldable pub result_left : {A : Type 0} → Result A ℕ → A → A
+result_left (Ok x) before = x
+result_left (Err n) before = before
+
+-- a set of C's means something where its flags are 0 or 1, else 2
+unfoldable pub flagged : {A : Type 0} → Bool → Result A ℕ → Result A ℕ
+flagged flags r = cond flags r (Err 2)
 
 -- a set of one kind as C has it; 2 for a set of another kind
 unfoldable pub of_kind : {S : Type 0} → ApsKind → (VvcAps → S) → Outcome VvcAps → Outcome S

@@ -1,6 +1,8 @@
 //! The structs' sizes and the places of their fields, as a C compiler has them from include/kendwyra.h.
 
-use kendwyra::{Alf, Head, Lmcs, Scaling, UnitHeader};
+use kendwyra::{
+    Alf, CcFilters, ChromaFilters, Head, Lmcs, LumaFilters, LumaWeights, Scaling, UnitHeader,
+};
 use std::mem::{align_of, offset_of, size_of, size_of_val};
 
 /// Checks a struct's size and alignment, and the offset and the size of each field; the fields are all that it has.
@@ -97,5 +99,30 @@ fn scaling() {
         scaling_list_pred_id_delta: 60, 112;
         scaling_list_dc_coef: 172, 56;
         scaling_list: 228, 7168;
+    }
+}
+
+#[test]
+fn filters() {
+    layout! {
+        LumaFilters: 2400, 4;
+        coefficients: 0, 1200;
+        clips: 1200, 1200;
+    }
+    layout! {
+        ChromaFilters: 388, 4;
+        count: 0, 4;
+        coefficients: 4, 192;
+        clips: 196, 192;
+    }
+    layout! {
+        CcFilters: 116, 4;
+        count: 0, 4;
+        coefficients: 4, 112;
+    }
+    layout! {
+        LumaWeights: 52, 4;
+        taps: 0, 48;
+        centre: 48, 4;
     }
 }

@@ -3,6 +3,7 @@
 mod buffers;
 mod bytes;
 mod fields;
+mod filters;
 mod flags;
 mod layout;
 mod longest;

@@ -8,13 +8,13 @@ use kendwyra::{Alf, Aps, Head, Kind, Lmcs, Marks, Refusal, Scaling, Table, UnitH
 
 #[test]
 fn numbers_and_words() {
-    for number in (1..=6).chain([14]) {
+    for number in 1..=14 {
         let refusal = Refusal::from_number(number).unwrap();
         assert_eq!(refusal.number(), number);
         let error: Box<dyn std::error::Error> = refusal.into();
         assert!(!error.to_string().is_empty());
     }
-    for number in [0, 256].into_iter().chain(7..14).chain(15..20) {
+    for number in [0, 256].into_iter().chain(15..20) {
         assert_eq!(Refusal::from_number(number), None);
     }
 }
