@@ -1457,6 +1457,26 @@ static void filters_of(const aps_alf *set, int is_writable)
     free(weights);
 }
 
+static void factors_of(const aps_scaling *set, int is_writable)
+{
+    uint8_t *eight = lend(64), *four = lend(16), *two = lend(4), *dc = lend(1);
+    uint32_t id = any_number(30), due = is_writable ? 0 : APS_INVALID_DATA;
+
+    if (is_writable && aps_scaling_dc(set, 14, dc)) {
+        due = APS_ZERO_FACTOR;
+        check("a zero", aps_scaling_dc(set, 14, dc), due);
+    }
+    dc[0] = UNTOUCHED;
+    given("8x8", aps_scaling_matrix8(set, id, (void *)eight), id < 8 || id > 27 ? APS_INVALID_DATA : due, eight, 64);
+    given("4x4", aps_scaling_matrix4(set, id, (void *)four), id < 2 || id > 7 ? APS_INVALID_DATA : due, four, 16);
+    given("2x2", aps_scaling_matrix2(set, id, (void *)two), id > 1 ? APS_INVALID_DATA : due, two, 4);
+    given("a DC", aps_scaling_dc(set, id, dc), id < 14 || id > 27 ? APS_INVALID_DATA : due, dc, 1);
+    free(eight);
+    free(four);
+    free(two);
+    free(dc);
+}
+
 /* What a set of any bytes means: a set that is not written with extension flag 0 gets 2, but for one that is too long. */
 static void meaning(const calls *k, const uint8_t *set)
 {
@@ -1468,6 +1488,8 @@ static void meaning(const calls *k, const uint8_t *set)
     is_writable = are_flags(k, set) && k->write(plain, out, ROOM, len) != APS_INVALID_DATA;
     if (k->kind == APS_ALF) {
         filters_of((const void *)set, is_writable);
+    } else if (k->kind == APS_SCALING) {
+        factors_of((const void *)set, is_writable);
     }
     free(plain);
     free(out);

@@ -135,6 +135,19 @@ static void filters(void)
     check("filter 25", aps_alf_luma_weights(&alf, 25, &weights), APS_INVALID_DATA);
 }
 
+/* Scaling lists that are all copies: 16 throughout. */
+static void factors(void)
+{
+    uint8_t matrix[8][8], dc[1];
+
+    memset(&scaling, 0, sizeof scaling);
+    memset(scaling.scaling_list_copy_mode_flag, 1, sizeof scaling.scaling_list_copy_mode_flag);
+    check("a matrix", aps_scaling_matrix8(&scaling, 27, matrix), 0);
+    check("16", matrix[7][7], 16);
+    check("a DC", aps_scaling_dc(&scaling, 14, dc) == 0 && dc[0] == 16, 1);
+    check("id 8 is no 4x4", aps_scaling_matrix4(&scaling, 8, (uint8_t(*)[4])matrix), APS_INVALID_DATA);
+}
+
 /* A unit whose RBSP has 2,048 bytes, a small set and what follows it, and then one more. */
 static void longest_rbsp(void)
 {
@@ -199,6 +212,7 @@ int main(void)
     a_mark();
     one_set();
     filters();
+    factors();
     longest_rbsp();
     refused();
     if (failures == 0) {

@@ -245,6 +245,13 @@ uint32_t aps_alf_cr_filters(const aps_alf *set, uint32_t depth, aps_cc_filters *
 /* The weights of a luma filter. 2: a number above 24; 8. */
 uint32_t aps_alf_luma_weights(const aps_alf *set, uint32_t filter, aps_luma_weights *weights);
 
+/* The scaling factors of a set of scaling lists (H.266 7.4.3.20), by row and column, of id 8 to 27, 2 to 7, and 0 or 1; and
+ * the DC of id 14 to 27. 2: another id; 9: a factor or a DC of the set is 0, whichever id is asked for. */
+uint32_t aps_scaling_matrix8(const aps_scaling *set, uint32_t id, uint8_t matrix[8][8]);
+uint32_t aps_scaling_matrix4(const aps_scaling *set, uint32_t id, uint8_t matrix[4][4]);
+uint32_t aps_scaling_matrix2(const aps_scaling *set, uint32_t id, uint8_t matrix[2][2]);
+uint32_t aps_scaling_dc(const aps_scaling *set, uint32_t id, uint8_t dc[1]);
+
 /* ---- escapes */
 
 /* Escapes removed (00 00 03 becomes 00 00), and the length. */

@@ -8,6 +8,7 @@ mod boundaries;
 mod calls;
 mod escapes;
 mod expected;
+mod factors;
 mod fields;
 mod filters;
 mod headers;
@@ -34,7 +35,7 @@ fn main() -> ExitCode {
     }
     if parts.is_empty() {
         parts = [
-            "fields", "escapes", "sets", "written", "records", "table", "filters", "calls", "speed",
+            "fields", "escapes", "sets", "written", "records", "table", "filters", "factors", "calls", "speed",
         ]
         .map(String::from)
         .to_vec();
@@ -51,10 +52,11 @@ fn main() -> ExitCode {
             "records" => rows.push(records::compare()),
             "table" => rows.extend(table::compare()),
             "filters" => rows.extend(filters::compare()),
+            "factors" => rows.extend(factors::compare()),
             "calls" => calls = calls::compare(),
             "speed" => times = speed::measure(),
             _ => {
-                eprintln!("no part {part}: fields, escapes, sets, written, records, table, filters, calls, speed, boundaries, sample or replay");
+                eprintln!("no part {part}: fields, escapes, sets, written, records, table, filters, factors, calls, speed, boundaries, sample or replay");
                 return ExitCode::from(2);
             }
         }

@@ -38,6 +38,7 @@
 
 pub mod error;
 pub mod escapes;
+pub mod factors;
 pub mod filters;
 pub mod marks;
 pub mod raw;

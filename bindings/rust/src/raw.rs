@@ -123,6 +123,18 @@ extern "C" {
     /// One luma filter of it as weights.
     pub fn aps_alf_luma_weights(set: *const Alf, filter: u32, weights: *mut LumaWeights) -> u32;
 
+    /// A matrix of 8x8 of a scaling set, by row and column.
+    pub fn aps_scaling_matrix8(set: *const Scaling, id: u32, matrix: &mut [[u8; 8]; 8]) -> u32;
+
+    /// One of 4x4.
+    pub fn aps_scaling_matrix4(set: *const Scaling, id: u32, matrix: &mut [[u8; 4]; 4]) -> u32;
+
+    /// One of 2x2.
+    pub fn aps_scaling_matrix2(set: *const Scaling, id: u32, matrix: &mut [[u8; 2]; 2]) -> u32;
+
+    /// A DC.
+    pub fn aps_scaling_dc(set: *const Scaling, id: u32, dc: &mut u8) -> u32;
+
     /// Escapes removed.
     pub fn aps_ebsp_to_rbsp(src: *const u8, len: usize, out: *mut u8, room: usize, written: &mut u64) -> u32;
 

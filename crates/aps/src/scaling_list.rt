@@ -33,8 +33,8 @@ impl Default for VvcScalingListData {
 
 // A list's id, 0 to 27.
 #[derive(Clone, Copy)]
-pub(crate) struct ListId {
-    pub(crate) number: usize,
+pub struct ListId {
+    pub number: usize,
     ghost below: { number < 28 },
 }
 
@@ -43,7 +43,7 @@ impl ListId {
 
     // matrix_size.
     #[tactic(auto, unfolding(crate::specs::ScalingSyntax::matrix_size))]
-    pub(crate) fn matrix_size(self) -> usize
+    pub fn matrix_size(self) -> usize
         ensures { result ≡ matrix_size self.number }
     {
         if self.number < 2 {
@@ -56,7 +56,7 @@ impl ListId {
     }
 
     // matrix_size * matrix_size.
-    pub(crate) fn matrix_entries(self) -> usize
+    pub fn matrix_entries(self) -> usize
         ensures { result ≡ entries self.number }
     {
         let n = self.matrix_size();
@@ -65,7 +65,7 @@ impl ListId {
 
     // max_id_delta (101).
     #[tactic(auto, unfolding(crate::specs::ScalingSyntax::max_id_delta))]
-    pub(crate) fn max_id_delta(self) -> usize
+    pub fn max_id_delta(self) -> usize
         ensures { result ≡ max_id_delta self.number }
     {
         if self.number < 2 {
@@ -79,7 +79,7 @@ impl ListId {
 
     // The syntax codes it under this chroma flag.
     #[tactic(auto, unfolding(crate::specs::ScalingSyntax::id_coded))]
-    pub(crate) fn scaling_id_coded(self, chroma: bool) -> bool
+    pub fn scaling_id_coded(self, chroma: bool) -> bool
         ensures { result ≡ id_coded chroma self.number }
     {
         chroma || self.number % 3 == 2 || self.number == 27
@@ -93,7 +93,7 @@ impl ListId {
     }
 
     // scaling_list_pred_id_delta is sent for an id that is copied or predicted, but for the first of each size.
-    pub(crate) fn delta_sent(self, used: bool) -> bool
+    pub fn delta_sent(self, used: bool) -> bool
         ensures { result ≡ delta_sent self.number used }
     {
         used && self.number != 0 && self.number != 2 && self.number != 8

@@ -2,6 +2,7 @@
 
 mod buffers;
 mod bytes;
+mod factors;
 mod fields;
 mod filters;
 mod flags;

@@ -1,0 +1,4 @@
+pub mod Factors
+pub mod Matrix
+pub mod Answers
+pub mod Inner
