@@ -1457,6 +1457,19 @@ static void filters_of(const aps_alf *set, int is_writable)
     free(weights);
 }
 
+static void curve_of(const aps_lmcs *set, int is_writable)
+{
+    aps_luma_curve *curve = (void *)lend(sizeof *curve);
+    uint32_t depth = any_number(15), due = aps_lmcs_curve(set, depth, curve);
+    int is_one = due == 0 || due == APS_CODEWORD_OUT_OF_RANGE || due == APS_CODEWORDS_TOO_LARGE;
+
+    check("a writable set", due == APS_INVALID_DATA, !is_writable);
+    check("a depth", is_writable && (depth < 8 || depth > 12), due == APS_DEPTH_OUT_OF_RANGE);
+    check("or a curve", due == APS_INVALID_DATA || due == APS_DEPTH_OUT_OF_RANGE || is_one, 1);
+    given("tables", due, due, curve, sizeof *curve);
+    free(curve);
+}
+
 static void factors_of(const aps_scaling *set, int is_writable)
 {
     uint8_t *eight = lend(64), *four = lend(16), *two = lend(4), *dc = lend(1);
@@ -1488,7 +1501,9 @@ static void meaning(const calls *k, const uint8_t *set)
     is_writable = are_flags(k, set) && k->write(plain, out, ROOM, len) != APS_INVALID_DATA;
     if (k->kind == APS_ALF) {
         filters_of((const void *)set, is_writable);
-    } else if (k->kind == APS_SCALING) {
+    } else if (k->kind == APS_LMCS) {
+        curve_of((const void *)set, is_writable);
+    } else {
         factors_of((const void *)set, is_writable);
     }
     free(plain);

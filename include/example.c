@@ -135,10 +135,11 @@ static void filters(void)
     check("filter 25", aps_alf_luma_weights(&alf, 25, &weights), APS_INVALID_DATA);
 }
 
-/* Scaling lists that are all copies: 16 throughout. */
-static void factors(void)
+/* Scaling lists that are all copies: 16 throughout. Bins 1 to 14 of a curve without deltas. */
+static void factors_and_curve(void)
 {
     uint8_t matrix[8][8], dc[1];
+    aps_luma_curve curve;
 
     memset(&scaling, 0, sizeof scaling);
     memset(scaling.scaling_list_copy_mode_flag, 1, sizeof scaling.scaling_list_copy_mode_flag);
@@ -146,6 +147,12 @@ static void factors(void)
     check("16", matrix[7][7], 16);
     check("a DC", aps_scaling_dc(&scaling, 14, dc) == 0 && dc[0] == 16, 1);
     check("id 8 is no 4x4", aps_scaling_matrix4(&scaling, 8, (uint8_t(*)[4])matrix), APS_INVALID_DATA);
+    memset(&lmcs, 0, sizeof lmcs);
+    check("a sum of 2 to the power 10", aps_lmcs_curve(&lmcs, 10, &curve), APS_CODEWORDS_TOO_LARGE);
+    lmcs.lmcs_min_bin_idx = lmcs.lmcs_delta_max_bin_idx = 1;
+    check("a curve", aps_lmcs_curve(&lmcs, 10, &curve), 0);
+    check("its codewords", curve.codewords[0] == 0 && curve.codewords[1] == 64 && curve.pivots[16] == 14 * 64, 1);
+    check("its scales", curve.inverse[1] == 1024 * 2 && curve.inverse_rest[1] == 0 && curve.chroma[0] == 2048, 1);
 }
 
 /* A unit whose RBSP has 2,048 bytes, a small set and what follows it, and then one more. */
@@ -212,7 +219,7 @@ int main(void)
     a_mark();
     one_set();
     filters();
-    factors();
+    factors_and_curve();
     longest_rbsp();
     refused();
     if (failures == 0) {

@@ -252,6 +252,23 @@ uint32_t aps_scaling_matrix4(const aps_scaling *set, uint32_t id, uint8_t matrix
 uint32_t aps_scaling_matrix2(const aps_scaling *set, uint32_t id, uint8_t matrix[2][2]);
 uint32_t aps_scaling_dc(const aps_scaling *set, uint32_t id, uint8_t dc[1]);
 
+/* The luma curve of an LMCS set (H.266 7.4.3.19), with O for 2 to the power depth - 4. A scale is O * 2048 divided by the
+ * codeword, for chroma with the chroma delta added, and rest the exact remainder; an empty bin has the codeword 0 and the
+ * scales 0 and 2048. */
+typedef struct aps_luma_curve {
+    uint32_t codewords[16];
+    uint32_t pivots[17];
+    uint32_t forward[16];
+    uint32_t inverse[16];
+    uint32_t inverse_rest[16];
+    uint32_t chroma[16];
+    uint32_t chroma_rest[16];
+} aps_luma_curve;
+
+/* 7: a depth outside 8 to 12; 10: a coded codeword, or one with the chroma delta, below O / 8 or above 8 * O - 1; 11: the
+ * codewords' sum reaches 2 to the power depth. */
+uint32_t aps_lmcs_curve(const aps_lmcs *set, uint32_t depth, aps_luma_curve *curve);
+
 /* ---- escapes */
 
 /* Escapes removed (00 00 03 becomes 00 00), and the length. */

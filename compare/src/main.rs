@@ -6,6 +6,7 @@ include!(env!("COMPARE_RUST"));
 
 mod boundaries;
 mod calls;
+mod curve;
 mod escapes;
 mod expected;
 mod factors;
@@ -35,7 +36,7 @@ fn main() -> ExitCode {
     }
     if parts.is_empty() {
         parts = [
-            "fields", "escapes", "sets", "written", "records", "table", "filters", "factors", "calls", "speed",
+            "fields", "escapes", "sets", "written", "records", "table", "filters", "factors", "curve", "calls", "speed",
         ]
         .map(String::from)
         .to_vec();
@@ -53,10 +54,11 @@ fn main() -> ExitCode {
             "table" => rows.extend(table::compare()),
             "filters" => rows.extend(filters::compare()),
             "factors" => rows.extend(factors::compare()),
+            "curve" => rows.extend(curve::compare()),
             "calls" => calls = calls::compare(),
             "speed" => times = speed::measure(),
             _ => {
-                eprintln!("no part {part}: fields, escapes, sets, written, records, table, filters, factors, calls, speed, boundaries, sample or replay");
+                eprintln!("no part {part}: fields, escapes, sets, written, records, table, filters, factors, curve, calls, speed, boundaries, sample or replay");
                 return ExitCode::from(2);
             }
         }

@@ -36,6 +36,7 @@
 
 #![deny(missing_docs)]
 
+pub mod curve;
 pub mod error;
 pub mod escapes;
 pub mod factors;
@@ -45,6 +46,7 @@ pub mod raw;
 pub mod sets;
 pub mod table;
 
+pub use curve::LumaCurve;
 pub use error::Refusal;
 pub use filters::{CcFilters, ChromaFilters, LumaFilters, LumaWeights};
 pub use marks::Marks;

@@ -7,6 +7,7 @@
 //! nothing else that is lent. A pointer to a set is that of memory as large and as aligned as the set, readable or writable too; a set that is
 //! written out may be any bytes, flags other than 0 and 1 with them. Any bytes are some table, and any are some marks.
 
+use crate::curve::LumaCurve;
 use crate::filters::{CcFilters, ChromaFilters, LumaFilters, LumaWeights};
 use crate::sets::{Alf, Head, Lmcs, Scaling, UnitHeader};
 use crate::{MARKS_BYTES, TABLE_BYTES};
@@ -134,6 +135,9 @@ extern "C" {
 
     /// A DC.
     pub fn aps_scaling_dc(set: *const Scaling, id: u32, dc: &mut u8) -> u32;
+
+    /// The luma curve of an LMCS set at a bit depth.
+    pub fn aps_lmcs_curve(set: *const Lmcs, depth: u32, curve: *mut LumaCurve) -> u32;
 
     /// Escapes removed.
     pub fn aps_ebsp_to_rbsp(src: *const u8, len: usize, out: *mut u8, room: usize, written: &mut u64) -> u32;

@@ -41,6 +41,10 @@ result_left (Err n) before = before
 unfoldable pub flagged : {A : Type 0} → Bool → Result A ℕ → Result A ℕ
 flagged flags r = cond flags r (Err 2)
 
+-- the same of an outcome
+unfoldable pub flags_first : {A : Type 0} → Bool → Outcome A → Outcome A
+flags_first flags o = cond flags o (refused 2)
+
 -- a set of one kind as C has it; 2 for a set of another kind
 unfoldable pub of_kind : {S : Type 0} → ApsKind → (VvcAps → S) → Outcome VvcAps → Outcome S
 of_kind kind of o = o then λ a q. cond (eqb (number_of a.kind) (number_of kind)) (value (of a) q) (refused 2)

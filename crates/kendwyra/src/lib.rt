@@ -4,6 +4,7 @@
 mod alf;
 pub mod bytes;
 mod calls;
+pub mod curve;
 pub mod factors;
 pub mod fields;
 pub mod filters;

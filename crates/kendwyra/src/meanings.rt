@@ -2,7 +2,8 @@
 ghost use Rattle.std.specs.Prelude.{◌≡◌, true, false, IfOk, IfErr};
 ghost use Rattle.bitstream.specs.Outcome.{numbered};
 ghost use Rattle.bitstream.specs.declared.Refusal.TheVariants.{InvalidData};
-ghost use Rattle.kendwyra.specs.Codes.{result_code, result_left};
+ghost use Rattle.luma_curve.specs.Answers as Curve;
+ghost use Rattle.kendwyra.specs.Codes.{code, value_left, result_code, result_left};
 
 use crate::set::Struct;
 use aps::aps::ApsHead;
@@ -33,6 +34,21 @@ pub(crate) fn set_of<P: Payload, S: Struct<P>>(set: &S) -> Result<ApsOf<P>, Refu
 pub(crate) fn put<A: Copy>(answer: Result<A, Refusal>, out: &mut A) -> u32
     ensures code { result ≡ result_code (numbered answer) }
     ensures out { out.new ≡ result_left (numbered answer) out.old }
+{
+    match answer {
+        Ok(value) => {
+            *out = value;
+            0
+        }
+        Err(why) => why.into(),
+    }
+}
+
+// The same of an outcome.
+#[tactic(auto, unfolding(crate::specs::Codes::code, crate::specs::Codes::value_left))]
+pub(crate) fn put_value<A: Copy>(answer: Result<A, Refusal>, out: &mut A) -> u32
+    ensures code { result ≡ code (Curve.answer answer) }
+    ensures out { out.new ≡ value_left (Curve.answer answer) out.old }
 {
     match answer {
         Ok(value) => {

@@ -1,7 +1,7 @@
 //! The structs' sizes and the places of their fields, as a C compiler has them from include/kendwyra.h.
 
 use kendwyra::{
-    Alf, CcFilters, ChromaFilters, Head, Lmcs, LumaFilters, LumaWeights, Scaling, UnitHeader,
+    Alf, CcFilters, ChromaFilters, Head, Lmcs, LumaCurve, LumaFilters, LumaWeights, Scaling, UnitHeader,
 };
 use std::mem::{align_of, offset_of, size_of, size_of_val};
 
@@ -124,5 +124,19 @@ fn filters() {
         LumaWeights: 52, 4;
         taps: 0, 48;
         centre: 48, 4;
+    }
+}
+
+#[test]
+fn curve() {
+    layout! {
+        LumaCurve: 452, 4;
+        codewords: 0, 64;
+        pivots: 64, 68;
+        forward: 132, 64;
+        inverse: 196, 64;
+        inverse_rest: 260, 64;
+        chroma: 324, 64;
+        chroma_rest: 388, 64;
     }
 }

@@ -2,6 +2,7 @@
 
 mod buffers;
 mod bytes;
+mod curve;
 mod factors;
 mod fields;
 mod filters;

@@ -1,0 +1,11 @@
+pub mod RowLaws
+pub mod PivotLaws
+pub mod BinLaws
+pub mod SumLaws
+pub mod FitLaws
+pub mod JudgeLaws
+pub mod TakenLaws
+pub mod TableLaws
+pub mod OrgLaws
+pub mod DivisionLaws
+pub mod CurveRows

@@ -1,0 +1,12 @@
+-- `rest`: an empty bin is told by its codeword.
+use borrow.Author.Tests.{eq-eqb, ne_eqb}
+use Rattle.luma_curve.specs.Bin.{rest}
+use Rattle.luma_curve.proofs.org_cw.OrgCw.rest.Goals as goal
+
+pub returns-then-codeword-eq0 : goal.returns-then-codeword-eq0
+unfolding rest
+returns-then-codeword-eq0 c = rw (eq-eqb _ _ c.if-codeword-eq0.true)
+
+pub returns : goal.returns
+unfolding rest
+returns c = rw (ne_eqb _ _ c.if-codeword-eq0.false)

@@ -1,0 +1,5 @@
+pub mod Bin
+pub mod Curve
+pub mod Answers
+pub mod Inner
+pub mod Division
