@@ -1460,14 +1460,25 @@ static void filters_of(const aps_alf *set, int is_writable)
 static void curve_of(const aps_lmcs *set, int is_writable)
 {
     aps_luma_curve *curve = (void *)lend(sizeof *curve);
-    uint32_t depth = any_number(15), due = aps_lmcs_curve(set, depth, curve);
+    aps_ends *ends = (void *)lend(sizeof *ends);
+    uint32_t *mapped = (void *)lend(sizeof *mapped);
+    uint32_t depth = any_number(15), lower = any_number(5000), upper = any_number(5000), due = aps_lmcs_curve(set, depth, curve);
     int is_one = due == 0 || due == APS_CODEWORD_OUT_OF_RANGE || due == APS_CODEWORDS_TOO_LARGE;
+    uint32_t end;
 
     check("a writable set", due == APS_INVALID_DATA, !is_writable);
     check("a depth", is_writable && (depth < 8 || depth > 12), due == APS_DEPTH_OUT_OF_RANGE);
     check("or a curve", due == APS_INVALID_DATA || due == APS_DEPTH_OUT_OF_RANGE || is_one, 1);
     given("tables", due, due, curve, sizeof *curve);
+    end = due == 0 ? 1u << depth : 0;
+    given("a sample", aps_lmcs_map_sample(set, depth, lower, mapped), due ? due : lower < end ? 0 : APS_SAMPLE_OUT_OF_RANGE,
+          mapped, sizeof *mapped);
+    given("a range", aps_lmcs_map_range(set, depth, lower, upper, ends),
+          due ? due : lower <= upper && upper < end ? 0 : APS_SAMPLE_OUT_OF_RANGE, ends, sizeof *ends);
+    check("below", due || lower >= end || *mapped < end, 1);
     free(curve);
+    free(ends);
+    free(mapped);
 }
 
 static void factors_of(const aps_scaling *set, int is_writable)

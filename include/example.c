@@ -135,11 +135,13 @@ static void filters(void)
     check("filter 25", aps_alf_luma_weights(&alf, 25, &weights), APS_INVALID_DATA);
 }
 
-/* Scaling lists that are all copies: 16 throughout. Bins 1 to 14 of a curve without deltas. */
+/* Scaling lists that are all copies: 16 throughout. Bins 1 to 14 of a curve without deltas: what is mapped from where. */
 static void factors_and_curve(void)
 {
     uint8_t matrix[8][8], dc[1];
     aps_luma_curve curve;
+    aps_ends ends;
+    uint32_t mapped[1];
 
     memset(&scaling, 0, sizeof scaling);
     memset(scaling.scaling_list_copy_mode_flag, 1, sizeof scaling.scaling_list_copy_mode_flag);
@@ -153,6 +155,9 @@ static void factors_and_curve(void)
     check("a curve", aps_lmcs_curve(&lmcs, 10, &curve), 0);
     check("its codewords", curve.codewords[0] == 0 && curve.codewords[1] == 64 && curve.pivots[16] == 14 * 64, 1);
     check("its scales", curve.inverse[1] == 1024 * 2 && curve.inverse_rest[1] == 0 && curve.chroma[0] == 2048, 1);
+    check("a sample", aps_lmcs_map_sample(&lmcs, 10, 940, mapped) == 0 && mapped[0] == 940 - 64, 1);
+    check("a range", aps_lmcs_map_range(&lmcs, 10, 0, 1023, &ends) == 0 && ends.least == 0 && ends.greatest == 14 * 64, 1);
+    check("sample 1024", aps_lmcs_map_sample(&lmcs, 10, 1024, mapped), APS_SAMPLE_OUT_OF_RANGE);
 }
 
 /* A unit whose RBSP has 2,048 bytes, a small set and what follows it, and then one more. */

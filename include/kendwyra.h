@@ -265,9 +265,20 @@ typedef struct aps_luma_curve {
     uint32_t chroma_rest[16];
 } aps_luma_curve;
 
+/* Of a range of samples the least and the greatest value that one is mapped to; both are reached. */
+typedef struct aps_ends {
+    uint32_t least;
+    uint32_t greatest;
+} aps_ends;
+
 /* 7: a depth outside 8 to 12; 10: a coded codeword, or one with the chroma delta, below O / 8 or above 8 * O - 1; 11: the
  * codewords' sum reaches 2 to the power depth. */
 uint32_t aps_lmcs_curve(const aps_lmcs *set, uint32_t depth, aps_luma_curve *curve);
+
+/* What the curve maps a sample to, and the ends of a range, both its ends in it. 7; 10; 11; 12: a sample of 2 to the power
+ * depth or more, or a lower end above the upper. */
+uint32_t aps_lmcs_map_sample(const aps_lmcs *set, uint32_t depth, uint32_t sample, uint32_t mapped[1]);
+uint32_t aps_lmcs_map_range(const aps_lmcs *set, uint32_t depth, uint32_t lower, uint32_t upper, aps_ends *ends);
 
 /* ---- escapes */
 

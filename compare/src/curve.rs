@@ -1,4 +1,4 @@
-//! The luma curves of LMCS sets: every table at every depth, against a plain model in wide integers.
+//! The luma curves of LMCS sets: every table at every depth, and where samples and ranges land, against plain models in wide integers.
 
 use crate::expected::meanings::{changed, record_of, Sets};
 use crate::h266::aps::{VvcApsPayload, VvcLmcsData};
@@ -9,10 +9,18 @@ use crate::tally::Tally;
 use kendwyra::raw;
 
 const SETS: usize = 1_000_000;
+const MAPPED: usize = 10_000;
+const RANGES: usize = 20;
 
 type Words = Result<Vec<u32>, u32>;
 
 pub fn compare() -> Vec<Tally> {
+    let mut rows = tables();
+    rows.extend(samples());
+    rows
+}
+
+fn tables() -> Vec<Tally> {
     let mut rows = [
         "curve: tables",
         "curve: refused with 2",
@@ -95,6 +103,7 @@ fn near(random: &mut Random) -> Vec<i64> {
 }
 
 struct Curve {
+    o: i128,
     codewords: Vec<i128>,
     pivots: Vec<i128>,
     forward: Vec<i128>,
@@ -120,6 +129,11 @@ impl Curve {
         .into_iter()
         .map(|x| u32::try_from(x).expect("a number of the curve"))
         .collect()
+    }
+
+    fn map(&self, s: i128) -> i128 {
+        let b = (s / self.o) as usize;
+        self.pivots[b] + (self.forward[b] * (s - b as i128 * self.o) + 1024) / 2048
     }
 }
 
@@ -151,6 +165,7 @@ fn model(set: &[i64], depth: u32) -> Result<Curve, u32> {
         }
     };
     Ok(Curve {
+        o,
         pivots: (0..=16).map(|i| luma[..i].iter().sum()).collect(),
         forward: luma.iter().map(|c| (c * 2048 + o / 2) / o).collect(),
         inverse: luma.iter().map(|&c| scale(c, 0)).collect(),
@@ -177,4 +192,87 @@ fn signed(abs: i128, sign: bool) -> i128 {
 
 fn delta(d: &VvcLmcsData, i: usize) -> i128 {
     signed(d.lmcs_delta_abs_cw[i].into(), d.lmcs_delta_sign_cw_flag[i])
+}
+
+fn samples() -> Vec<Tally> {
+    let mut rows = [
+        "curve: samples",
+        "curve: ranges, by each sample in them",
+        "curve: samples and ranges refused with 12",
+        "curve: samples and ranges refused before 12",
+    ]
+    .map(Tally::new);
+    let mut random = Random::new(43);
+    let mut curves = 0;
+    while curves < MAPPED {
+        let set = near(&mut random);
+        let depth = 8 + random.below(5) as u32;
+        match model(&set, depth) {
+            Ok(curve) => {
+                curves += 1;
+                whole(&mut rows, &mut random, &set, depth, &curve);
+            }
+            Err(refused) => {
+                let s = random.below(1 << 13) as u32;
+                rows[3].same(
+                    || format!("sample {s} of {:?}", changed(&set)),
+                    sample(&set, depth, s),
+                    Err(refused),
+                );
+                rows[3].same(
+                    || format!("range {s} of {:?}", changed(&set)),
+                    range(&set, depth, s, 0),
+                    Err(refused),
+                );
+            }
+        }
+    }
+    rows.into()
+}
+
+fn sample(set: &[i64], depth: u32, s: u32) -> Words {
+    words(set, 1, |set, out| unsafe {
+        raw::aps_lmcs_map_sample(set.cast(), depth, s, &mut *out)
+    })
+}
+
+fn range(set: &[i64], depth: u32, lower: u32, upper: u32) -> Words {
+    words(set, 2, |set, out| unsafe {
+        raw::aps_lmcs_map_range(set.cast(), depth, lower, upper, out.cast())
+    })
+}
+
+/// Every sample of a curve, and ranges of them.
+fn whole(rows: &mut [Tally; 4], random: &mut Random, set: &[i64], depth: u32, curve: &Curve) {
+    let end = 1u32 << depth;
+    let mapped: Vec<u32> = (0..end).map(|s| curve.map(s.into()) as u32).collect();
+    for (s, &due) in (0..).zip(&mapped) {
+        rows[0].same(
+            || format!("sample {s} at depth {depth} of {:?}", changed(set)),
+            sample(set, depth, s),
+            Ok(vec![due]),
+        );
+    }
+    for _ in 0..RANGES {
+        let (a, b) = (random.below(end as usize) as u32, random.below(end as usize) as u32);
+        let (lower, upper) = (a.min(b), a.max(b));
+        let inside = &mapped[lower as usize..=upper as usize];
+        let due = vec![
+            *inside.iter().min().expect("a sample"),
+            *inside.iter().max().expect("a sample"),
+        ];
+        let asked = || format!("range {lower} to {upper} at depth {depth} of {:?}", changed(set));
+        rows[1].same(asked, range(set, depth, lower, upper), Ok(due));
+        if lower < upper {
+            rows[2].same(
+                || format!("range {upper} to {lower}"),
+                range(set, depth, upper, lower),
+                Err(12),
+            );
+        }
+    }
+    for s in [end, end + 1, u32::MAX] {
+        rows[2].same(|| format!("sample {s}"), sample(set, depth, s), Err(12));
+        rows[2].same(|| format!("range 0 to {s}"), range(set, depth, 0, s), Err(12));
+    }
 }

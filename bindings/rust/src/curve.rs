@@ -24,6 +24,16 @@ pub struct LumaCurve {
     pub chroma_rest: [u32; 16],
 }
 
+/// What the samples of a range are mapped to; both values are reached.
+#[derive(Debug, Clone, Copy, Default, PartialEq, Eq)]
+#[repr(C)]
+pub struct Ends {
+    /// None is mapped to less.
+    pub least: u32,
+    /// None is mapped to more.
+    pub greatest: u32,
+}
+
 /// Each call refuses a set that could not be written were its extension flag 0 with `InvalidData` first; then `DepthOutOfRange`,
 /// `CodewordOutOfRange`, `CodewordsTooLarge`.
 impl Lmcs {
@@ -32,5 +42,19 @@ impl Lmcs {
         let mut curve = LumaCurve::default();
         // SAFETY: both structs have C's layout and don't overlap.
         answer(unsafe { raw::aps_lmcs_curve(self, depth, &mut curve) }).map(|()| curve)
+    }
+
+    /// What the curve maps a sample to; last, `SampleOutOfRange`.
+    pub fn map_sample(&self, depth: u32, sample: u32) -> Result<u32, Refusal> {
+        let mut mapped = 0;
+        // SAFETY: the set has C's layout and doesn't overlap the number.
+        answer(unsafe { raw::aps_lmcs_map_sample(self, depth, sample, &mut mapped) }).map(|()| mapped)
+    }
+
+    /// The ends of what the samples from `lower` to `upper` are mapped to; last, `SampleOutOfRange`.
+    pub fn map_range(&self, depth: u32, lower: u32, upper: u32) -> Result<Ends, Refusal> {
+        let mut ends = Ends::default();
+        // SAFETY: both structs have C's layout and don't overlap.
+        answer(unsafe { raw::aps_lmcs_map_range(self, depth, lower, upper, &mut ends) }).map(|()| ends)
     }
 }

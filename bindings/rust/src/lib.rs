@@ -46,7 +46,7 @@ pub mod raw;
 pub mod sets;
 pub mod table;
 
-pub use curve::LumaCurve;
+pub use curve::{Ends, LumaCurve};
 pub use error::Refusal;
 pub use filters::{CcFilters, ChromaFilters, LumaFilters, LumaWeights};
 pub use marks::Marks;

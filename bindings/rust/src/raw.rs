@@ -7,7 +7,7 @@
 //! nothing else that is lent. A pointer to a set is that of memory as large and as aligned as the set, readable or writable too; a set that is
 //! written out may be any bytes, flags other than 0 and 1 with them. Any bytes are some table, and any are some marks.
 
-use crate::curve::LumaCurve;
+use crate::curve::{Ends, LumaCurve};
 use crate::filters::{CcFilters, ChromaFilters, LumaFilters, LumaWeights};
 use crate::sets::{Alf, Head, Lmcs, Scaling, UnitHeader};
 use crate::{MARKS_BYTES, TABLE_BYTES};
@@ -138,6 +138,12 @@ extern "C" {
 
     /// The luma curve of an LMCS set at a bit depth.
     pub fn aps_lmcs_curve(set: *const Lmcs, depth: u32, curve: *mut LumaCurve) -> u32;
+
+    /// What it maps a sample to.
+    pub fn aps_lmcs_map_sample(set: *const Lmcs, depth: u32, sample: u32, mapped: &mut u32) -> u32;
+
+    /// The least and the greatest that it maps the samples of a range to.
+    pub fn aps_lmcs_map_range(set: *const Lmcs, depth: u32, lower: u32, upper: u32, ends: *mut Ends) -> u32;
 
     /// Escapes removed.
     pub fn aps_ebsp_to_rbsp(src: *const u8, len: usize, out: *mut u8, room: usize, written: &mut u64) -> u32;

@@ -18,7 +18,7 @@ use Rattle.luma_curve.specs.Curve.{judged, tables, luma_curve}
 use Rattle.luma_curve.specs.declared.curve.LumaCurve.{LumaCurve}
 
 -- bins 0 to 15 - max, of which bin 1 alone has a delta; then the chroma delta
-set : ℕ → Bool → ℕ → Bool → ℕ → VvcAps
+unfoldable pub set : ℕ → Bool → ℕ → Bool → ℕ → VvcAps
 set max negative m chroma_negative n =
     lmcs_set 0 true false (record {
       lmcs_min_bin_idx = 0;

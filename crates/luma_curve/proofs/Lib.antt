@@ -9,3 +9,9 @@ pub mod TableLaws
 pub mod OrgLaws
 pub mod DivisionLaws
 pub mod CurveRows
+pub mod MapLaws
+pub mod MapSteps
+pub mod EndLaws
+pub mod RangeLaws
+pub mod MappedLaws
+pub mod MapRows

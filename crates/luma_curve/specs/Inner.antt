@@ -1,5 +1,5 @@
 -- For the proofs' sake: what the inner functions promise each other on the way. No public contract says anything of this file.
-use Rattle.std.specs.Prelude.{◌≡◌, true, ℕ, ◌-◌, ◌≤◌, ◌<◌, Result, Ok, Err, ℤ, pos, neg_ℤ, ◌≤ℤ◌, get_or}
+use Rattle.std.specs.Prelude.{◌≡◌, true, ℕ, ◌*◌, ◌-◌, ◌≤◌, ◌<◌, Result, Ok, Err, ℤ, pos, neg_ℤ, ◌≤ℤ◌, get_or}
 use Rattle.bitstream.specs.Outcome.{value, refused, number}
 use Rattle.bitstream.specs.declared.Refusal.{Refusal}
 use Rattle.aps.specs.declared.aps.VvcAps.{VvcAps}
@@ -8,6 +8,7 @@ use Rattle.luma_curve.specs.declared.bins.Codewords.{Codewords}
 use Rattle.luma_curve.specs.declared.bins.Bins.{Bins}
 use Rattle.luma_curve.specs.Bin.{codeword, chroma_codeword, pivot, bin_in_range, all_below, row}
 use Rattle.luma_curve.specs.Curve.{judged}
+use Rattle.luma_curve.specs.Map.{judged_range}
 
 -- what a set that fits says of its record
 pub record Ranges (v : VvcLmcsData) : Type 0 where
@@ -37,3 +38,8 @@ pub record AreBins (a : VvcAps) (d : ℕ) (b : Bins) : Type 0 where
 abbrev pub IsJudged : VvcAps → ℕ → Result Bins Refusal → Type 0
 IsJudged a d (Ok b) = AreBins a d b
 IsJudged a d (Err why) = judged a d ≡ refused (number why)
+
+-- the same for samples lower to upper
+abbrev pub IsJudgedRange : VvcAps → ℕ → ℕ → ℕ → Result Bins Refusal → Type 0
+IsJudgedRange a d lower upper (Ok b) = AreBins a d b × (judged_range a d lower upper ≡ value b.org_cw.value 0) × (lower ≤ upper) × (upper < 16 * b.org_cw.value)
+IsJudgedRange a d lower upper (Err why) = judged_range a d lower upper ≡ refused (number why)

@@ -1,5 +1,6 @@
 pub mod Bin
 pub mod Curve
+pub mod Map
 pub mod Answers
 pub mod Inner
 pub mod Division

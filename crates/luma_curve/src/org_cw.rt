@@ -40,7 +40,7 @@ impl OrgCw {
 
     // The forward scale of a codeword.
     #[tactic(auto, unfolding(crate::specs::Bin::forward))]
-    fn forward(self, codeword: u32) -> u32
+    pub(crate) fn forward(self, codeword: u32) -> u32
         requires { codeword ≤ 2048 }
         ensures { result ≡ forward self.value codeword }
     {

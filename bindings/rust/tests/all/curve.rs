@@ -1,6 +1,6 @@
-//! Luma curves, divided exactly.
+//! Luma curves, divided exactly, and where samples land.
 
-use kendwyra::{Lmcs, Refusal};
+use kendwyra::{Ends, Lmcs, Refusal};
 
 /// Bins 1 to 14 with delta 0 but for bin 1, which has 4 more.
 fn bins() -> Lmcs {
@@ -28,12 +28,29 @@ fn tables() {
 }
 
 #[test]
+fn samples() {
+    let set = bins();
+    assert_eq!(set.map_sample(10, 0), Ok(0));
+    assert_eq!(set.map_sample(10, 63), Ok(0));
+    assert_eq!(set.map_sample(10, 127), Ok(67));
+    assert_eq!(set.map_sample(10, 128), Ok(68));
+    assert_eq!(set.map_sample(10, 1023), Ok(900));
+    let ends = Ends { least: 67, greatest: 68 };
+    assert_eq!(set.map_range(10, 127, 128), Ok(ends));
+}
+
+#[test]
 fn refusals() {
     let set = bins();
     assert_eq!(set.luma_curve(7), Err(Refusal::DepthOutOfRange));
     assert_eq!(set.luma_curve(13), Err(Refusal::DepthOutOfRange));
+    assert_eq!(set.map_sample(13, 1 << 13), Err(Refusal::DepthOutOfRange));
+    assert_eq!(set.map_sample(10, 1024), Err(Refusal::SampleOutOfRange));
+    assert_eq!(set.map_range(10, 5, 4), Err(Refusal::SampleOutOfRange));
+    assert_eq!(set.map_range(10, 4, 1024), Err(Refusal::SampleOutOfRange));
     let all = Lmcs::default();
     assert_eq!(all.luma_curve(8), Err(Refusal::CodewordsTooLarge));
+    assert_eq!(all.map_sample(8, 256), Err(Refusal::CodewordsTooLarge));
     let mut low = bins();
     (low.lmcs_delta_abs_cw[1], low.lmcs_delta_sign_cw_flag[1]) = (57, true);
     assert_eq!(low.luma_curve(10), Err(Refusal::CodewordOutOfRange));

@@ -1,7 +1,7 @@
 //! The structs' sizes and the places of their fields, as a C compiler has them from include/kendwyra.h.
 
 use kendwyra::{
-    Alf, CcFilters, ChromaFilters, Head, Lmcs, LumaCurve, LumaFilters, LumaWeights, Scaling, UnitHeader,
+    Alf, CcFilters, ChromaFilters, Ends, Head, Lmcs, LumaCurve, LumaFilters, LumaWeights, Scaling, UnitHeader,
 };
 use std::mem::{align_of, offset_of, size_of, size_of_val};
 
@@ -138,5 +138,10 @@ fn curve() {
         inverse_rest: 260, 64;
         chroma: 324, 64;
         chroma_rest: 388, 64;
+    }
+    layout! {
+        Ends: 8, 4;
+        least: 0, 4;
+        greatest: 4, 4;
     }
 }
