@@ -19,6 +19,7 @@ mod records;
 mod replay;
 mod rust_calls;
 mod sets;
+mod small;
 mod speed;
 mod table;
 mod tally;
@@ -32,6 +33,7 @@ fn main() -> ExitCode {
         ["boundaries"] => return printed(boundaries::print),
         ["sample"] => return printed(replay::print_sample),
         ["replay"] => return printed(replay::print_answers),
+        ["small"] => return printed(small::print),
         _ => (),
     }
     if parts.is_empty() {
@@ -58,7 +60,7 @@ fn main() -> ExitCode {
             "calls" => calls = calls::compare(),
             "speed" => times = speed::measure(),
             _ => {
-                eprintln!("no part {part}: fields, escapes, sets, written, records, table, filters, factors, curve, calls, speed, boundaries, sample or replay");
+                eprintln!("no part {part}: fields, escapes, sets, written, records, table, filters, factors, curve, calls, speed, boundaries, sample, replay or small");
                 return ExitCode::from(2);
             }
         }

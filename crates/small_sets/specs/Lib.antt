@@ -1,0 +1,4 @@
+pub mod Small
+pub mod Lines
+pub mod Every
+pub mod Inner
