@@ -1501,6 +1501,50 @@ static void factors_of(const aps_scaling *set, int is_writable)
     free(dc);
 }
 
+/* H.265 lists of any bytes, read, written and made a set; and lists that hold any bytes. */
+static void random_lists(void)
+{
+    size_t len = below(9) ? below(64) : 1200 + below(1200);
+    uint8_t *bytes = lend(len), *out = lend(3000), *few = NULL;
+    aps_hevc_lists *lists = (void *)lend(sizeof *lists), *any = (void *)lend(sizeof *any);
+    aps_scaling *set = (void *)lend(sizeof *set);
+    uint64_t end[1] = {77}, written_len[1] = {77};
+    uint32_t code, made, wrote;
+
+    for (size_t i = 0; i < len; i++) {
+        bytes[i] = below(3) ? 0x55 : (uint8_t)below(256);
+    }
+    code = aps_hevc_parse(bytes, len, lists, end);
+    check("lists", code <= APS_INVALID_DATA, 1);
+    check("their end", code ? end[0] == 77 && untouched(lists, 0, sizeof *lists) : end[0] <= len * 8, 1);
+    made = aps_hevc_scaling_set(bytes, len, set);
+    check("a set of them", code ? made == code : made == 0 || made == APS_ZERO_ELEMENT, 1);
+    check("or nothing", made == 0 || untouched(set, 0, sizeof *set), 1);
+    if (code == 0) {
+        wrote = aps_hevc_write(lists, out, 3000, written_len);
+        written("lists again", wrote, 0, out, 3000, written_len[0]);
+        check("as long", (long long)written_len[0], (long long)((end[0] + 7) / 8));
+        few = lend((size_t)written_len[0] - 1);
+        check("a byte less", aps_hevc_write(lists, few, (size_t)written_len[0] - 1, end), APS_OUTPUT_TOO_SHORT);
+        check("nothing", untouched(few, 0, (size_t)written_len[0] - 1), 1);
+        *any = *lists;
+        ((uint8_t *)any)[below(sizeof *any)] = (uint8_t)below(256);
+    } else {
+        randomly((uint8_t *)any, sizeof *any);
+    }
+    memset(out, UNTOUCHED, 3000);
+    written_len[0] = 77;
+    wrote = aps_hevc_write(any, out, 3000, written_len);
+    check("any lists", wrote == 0 || wrote == APS_INVALID_DATA, 1);
+    written("any lists written", wrote, wrote, out, 3000, written_len[0]);
+    free(bytes);
+    free(out);
+    free(few);
+    free(lists);
+    free(any);
+    free(set);
+}
+
 /* What a set of any bytes means: a set that is not written with extension flag 0 gets 2, but for one that is too long. */
 static void meaning(const calls *k, const uint8_t *set)
 {
@@ -1578,6 +1622,7 @@ static void at_random(long rounds)
         len = random_unit(unit);
         *(read_unit(unit, len, table).code ? &refused : &taken) += 1;
         random_escapes();
+        random_lists();
         if (i % 4 == 0) {
             random_stream(table);
             random_set(&kinds[i / 4 % 3], full[i / 4 % 3]);

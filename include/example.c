@@ -160,6 +160,24 @@ static void factors_and_curve(void)
     check("sample 1024", aps_lmcs_map_sample(&lmcs, 10, 1024, mapped), APS_SAMPLE_OUT_OF_RANGE);
 }
 
+/* H.265 lists that are all the default ones: 20 flags 0, each with a ue 0. */
+static void masters(void)
+{
+    static const uint8_t defaults[] = {0x55, 0x55, 0x55, 0x55, 0x55};
+    static aps_hevc_lists lists;
+    uint8_t matrix[8][8], bytes[8];
+    uint64_t end[1], len[1];
+
+    check("lists", aps_hevc_parse(defaults, 5, &lists, end), 0);
+    check("their end", end[0], 40);
+    check("written", aps_hevc_write(&lists, bytes, sizeof bytes, len) == 0 && len[0] == 5 && memcmp(bytes, defaults, 5) == 0, 1);
+    check("a set", aps_hevc_scaling_set(defaults, 5, &scaling), 0);
+    check("its chroma flag", scaling.aps_chroma_present_flag, 1);
+    check("intra", aps_scaling_matrix8(&scaling, 8, matrix) == 0 && matrix[7][7] == 115, 1);
+    check("inter", aps_scaling_matrix8(&scaling, 23, matrix) == 0 && matrix[7][7] == 91, 1);
+    check("cut off", aps_hevc_scaling_set(defaults, 4, &scaling), APS_UNEXPECTED_END);
+}
+
 /* A unit whose RBSP has 2,048 bytes, a small set and what follows it, and then one more. */
 static void longest_rbsp(void)
 {
@@ -225,6 +243,7 @@ int main(void)
     one_set();
     filters();
     factors_and_curve();
+    masters();
     longest_rbsp();
     refused();
     if (failures == 0) {

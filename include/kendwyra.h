@@ -280,6 +280,30 @@ uint32_t aps_lmcs_curve(const aps_lmcs *set, uint32_t depth, aps_luma_curve *cur
 uint32_t aps_lmcs_map_sample(const aps_lmcs *set, uint32_t depth, uint32_t sample, uint32_t mapped[1]);
 uint32_t aps_lmcs_map_range(const aps_lmcs *set, uint32_t depth, uint32_t lower, uint32_t upper, aps_ends *ends);
 
+/* ---- scaling lists of H.265 masters (H.265 7.3.4), as bare bytes: what follows the lists is not read, and the last byte
+ * written ends in zeros */
+
+/* By sizeId, then matrixId; at sizeId 3 only matrixId 0 and 3 are coded. What is not sent is 0. */
+typedef struct aps_hevc_lists {
+    uint8_t pred_mode_flag[4][6];
+    uint32_t pred_matrix_id_delta[4][6];
+    int32_t dc_coef_minus8[2][6]; /* of sizeId 2 and 3 */
+    uint8_t list_4x4[6][16];
+    uint8_t list_8x8[6][64]; /* in the order of the diagonal scan, as those below */
+    uint8_t list_16x16[6][64];
+    uint8_t list_32x32[6][64];
+} aps_hevc_lists;
+
+/* The lists, and the bit where reading ended. 4: over 65,536 bytes; 1 for a missing bit and 2 in reading order. */
+uint32_t aps_hevc_parse(const uint8_t *bytes, size_t len, aps_hevc_lists *lists, uint64_t end[1]);
+
+/* The lists written, and their length. 2; 5. */
+uint32_t aps_hevc_write(const aps_hevc_lists *lists, uint8_t *out, size_t room, uint64_t len[1]);
+
+/* The H.266 set of id 0 with the factors and DCs that the lists stand for (H.265 7.4.5): 4x4 in ids 2 to 7, 8x8 in 8 to 13,
+ * 16x16 in 14 to 19, the two of 32x32 in 20 and 23, 16 in all others. Those of reading; 13: an element is 0. */
+uint32_t aps_hevc_scaling_set(const uint8_t *bytes, size_t len, aps_scaling *set);
+
 /* ---- escapes */
 
 /* Escapes removed (00 00 03 becomes 00 00), and the length. */

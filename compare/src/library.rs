@@ -1,5 +1,6 @@
 //! The proved library's calls.
 
+pub mod hevc;
 pub mod marks;
 pub mod meanings;
 pub mod sets;

@@ -1,7 +1,7 @@
 //! Compares the proved library with the Rust that it follows, and measures both.
 #![allow(dead_code)] // parts of the Rust that are not compared
 
-// The Rust: bit_reader, bit_writer, nal, h266::aps, the header of h266, and BitstreamError.
+// The Rust: bit_reader, bit_writer, nal, h266::aps, the header of h266, of hevc the scaling lists as rust_hevc, and BitstreamError.
 include!(env!("COMPARE_RUST"));
 
 mod boundaries;
@@ -13,6 +13,7 @@ mod factors;
 mod fields;
 mod filters;
 mod headers;
+mod hevc;
 mod library;
 mod random;
 mod records;
@@ -38,7 +39,7 @@ fn main() -> ExitCode {
     }
     if parts.is_empty() {
         parts = [
-            "fields", "escapes", "sets", "written", "records", "table", "filters", "factors", "curve", "calls", "speed",
+            "fields", "escapes", "sets", "written", "records", "table", "filters", "factors", "curve", "hevc", "calls", "speed",
         ]
         .map(String::from)
         .to_vec();
@@ -57,10 +58,11 @@ fn main() -> ExitCode {
             "filters" => rows.extend(filters::compare()),
             "factors" => rows.extend(factors::compare()),
             "curve" => rows.extend(curve::compare()),
+            "hevc" => rows.extend(hevc::compare()),
             "calls" => calls = calls::compare(),
             "speed" => times = speed::measure(),
             _ => {
-                eprintln!("no part {part}: fields, escapes, sets, written, records, table, filters, factors, curve, calls, speed, boundaries, sample, replay or small");
+                eprintln!("no part {part}: fields, escapes, sets, written, records, table, filters, factors, curve, hevc, calls, speed, boundaries, sample, replay or small");
                 return ExitCode::from(2);
             }
         }

@@ -41,6 +41,7 @@ pub mod error;
 pub mod escapes;
 pub mod factors;
 pub mod filters;
+pub mod hevc;
 pub mod marks;
 pub mod raw;
 pub mod sets;

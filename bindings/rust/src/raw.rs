@@ -9,6 +9,7 @@
 
 use crate::curve::{Ends, LumaCurve};
 use crate::filters::{CcFilters, ChromaFilters, LumaFilters, LumaWeights};
+use crate::hevc::Lists;
 use crate::sets::{Alf, Head, Lmcs, Scaling, UnitHeader};
 use crate::{MARKS_BYTES, TABLE_BYTES};
 
@@ -144,6 +145,15 @@ extern "C" {
 
     /// The least and the greatest that it maps the samples of a range to.
     pub fn aps_lmcs_map_range(set: *const Lmcs, depth: u32, lower: u32, upper: u32, ends: *mut Ends) -> u32;
+
+    /// The H.265 lists of bare bytes, and the bit where reading ended.
+    pub fn aps_hevc_parse(bytes: *const u8, len: usize, lists: *mut Lists, end: &mut u64) -> u32;
+
+    /// H.265 lists as bare bytes.
+    pub fn aps_hevc_write(lists: *const Lists, out: *mut u8, room: usize, len: &mut u64) -> u32;
+
+    /// The H.266 set of the H.265 lists of bare bytes.
+    pub fn aps_hevc_scaling_set(bytes: *const u8, len: usize, set: *mut Scaling) -> u32;
 
     /// Escapes removed.
     pub fn aps_ebsp_to_rbsp(src: *const u8, len: usize, out: *mut u8, room: usize, written: &mut u64) -> u32;

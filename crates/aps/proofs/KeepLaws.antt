@@ -42,7 +42,7 @@ module _ {A : Type 0} where
   tabulate-at i (suc n) f (suc j) d h = tabulate-at (suc i) n f j d (omega arith) ∙ rw (suc-add i j, add-suc i j)
 
   -- a row of a flat array
-  row_at : (w : ℕ) (d : List A) (ls : List (List A)) → Wide w ls → (j : ℕ) → j < length ls → take w (drop (j * w) (joined ls)) ≡ get_or ls j d
+  pub row_at : (w : ℕ) (d : List A) (ls : List (List A)) → Wide w ls → (j : ℕ) → j < length ls → take w (drop (j * w) (joined ls)) ≡ get_or ls j d
   row_at w d [] h j b = absurd (omega arith)
   row_at w d (l ∷ ls) h zero b = rw zero-mul (take_at l (joined ls) w h.0)
   row_at w d (l ∷ ls) h (suc j) b =

@@ -27,14 +27,14 @@ use Rattle.std.proofs.lemmas.List.{take-replicate}
 -- ---- stores
 
 module _ {A B : Type 0} where
-  map-set : (f : A → B) (l : List A) (i : ℕ) (x : A) → map f (set l i x) ≡ set (map f l) i (f x)
+  pub map-set : (f : A → B) (l : List A) (i : ℕ) (x : A) → map f (set l i x) ≡ set (map f l) i (f x)
   map-set f [] i x = refl
   map-set f (y ∷ l) zero x = refl
   map-set f (y ∷ l) (suc i) x = ap {B = List B} (λ t. f y ∷ t) (map-set f l i x)
 
 module _ {A : Type 0} where
   -- a store from n on leaves the first n out
-  drop-set : (n i : ℕ) (l : List A) (x : A) → drop (suc n) (set l i x) ≡ cond (ltb n i) (set (drop (suc n) l) (i - suc n) x) (drop (suc n) l)
+  pub drop-set : (n i : ℕ) (l : List A) (x : A) → drop (suc n) (set l i x) ≡ cond (ltb n i) (set (drop (suc n) l) (i - suc n) x) (drop (suc n) l)
   drop-set n i l x = go (ltb n i) refl
     where
       go : (b : Bool) → ltb n i ≡ b → drop (suc n) (set l i x) ≡ cond b (set (drop (suc n) l) (i - suc n) x) (drop (suc n) l)

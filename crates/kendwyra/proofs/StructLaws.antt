@@ -13,7 +13,9 @@ use Rattle.aps.specs.declared.aps.VvcAps.{VvcAps}
 use Rattle.aps.proofs.CodecLaws.{and_left, and_right}
 use Rattle.kendwyra.specs.Codes.{taken}
 use Rattle.kendwyra.specs.Flags.{flag_byte, byte_flag, is_flag, flag_bytes, byte_flags, are_flags}
-use Rattle.kendwyra.specs.Structs.{alf_struct, alf_flags, alf_data, alf_in, lmcs_struct, lmcs_flags, lmcs_data, lmcs_in, scaling_struct, scaling_flags, scaling_data, scaling_in}
+use Rattle.kendwyra.specs.Structs.{alf_struct, alf_flags, alf_data, alf_in, lmcs_struct, lmcs_flags, lmcs_data, lmcs_in, scaling_struct, scaling_flags, scaling_data, scaling_in, hevc_struct, hevc_flags, hevc_in}
+use Rattle.kendwyra.specs.declared.structs.ApsHevcLists.{ApsHevcLists}
+use Rattle.hevc_scaling.specs.declared.scaling_list.HevcScalingListData.{HevcScalingListData}
 use Rattle.kendwyra.specs.declared.structs.ApsAlf.{ApsAlf}
 use Rattle.kendwyra.specs.declared.structs.ApsLmcs.{ApsLmcs}
 use Rattle.kendwyra.specs.declared.structs.ApsScaling.{ApsScaling}
@@ -185,3 +187,20 @@ scaling-same s h0 =
       bytes-back s.scaling_list_copy_mode_flag (and_left (are_flags s.scaling_list_copy_mode_flag) _ h2),
       bytes-back s.scaling_list_pred_mode_flag (and_right (are_flags s.scaling_list_copy_mode_flag) _ h2),
     )
+
+-- ---- scaling lists of H.265
+
+-- what is handed out is taken back as the same lists
+module _ (d : HevcScalingListData) where
+  pub hevc-flags : hevc_flags (hevc_struct d) ≡ true
+  unfolding hevc_flags hevc_struct
+  hevc-flags = flags-are d.pred_mode_flag
+
+  pub hevc-back : hevc_in (hevc_struct d) ≡ d
+  unfolding hevc_in hevc_struct
+  hevc-back = rw (flags-back d.pred_mode_flag)
+
+-- what is taken is the lists with those fields
+pub hevc-same : (s : ApsHevcLists) → hevc_flags s ≡ true → hevc_struct (hevc_in s) ≡ s
+unfolding hevc_flags hevc_in hevc_struct
+hevc-same s h = rw (bytes-back s.pred_mode_flag h)

@@ -37,6 +37,11 @@ unfoldable pub result_left : {A : Type 0} → Result A ℕ → A → A
 result_left (Ok x) before = x
 result_left (Err n) before = before
 
+-- a value made into another
+unfoldable pub made_into : {A B : Type 0} → (A → B) → Result A ℕ → Result B ℕ
+made_into f (Ok x) = Ok (f x)
+made_into f (Err n) = Err n
+
 -- a set of C's means something where its flags are 0 or 1, else 2
 unfoldable pub flagged : {A : Type 0} → Bool → Result A ℕ → Result A ℕ
 flagged flags r = cond flags r (Err 2)

@@ -13,6 +13,8 @@ use Rattle.kendwyra.specs.declared.structs.ApsAlf.{ApsAlf}
 use Rattle.kendwyra.specs.declared.structs.ApsLmcs.{ApsLmcs}
 use Rattle.kendwyra.specs.declared.structs.ApsScaling.{ApsScaling}
 use Rattle.kendwyra.specs.declared.structs.ApsHead.{ApsHead}
+use Rattle.kendwyra.specs.declared.structs.ApsHevcLists.{ApsHevcLists}
+use Rattle.hevc_scaling.specs.declared.scaling_list.HevcScalingListData.{HevcScalingListData}
 use Rattle.kendwyra.specs.Flags.{flag_byte, byte_flag, is_flag, flag_bytes, byte_flags, are_flags}
 
 unfoldable pub head_struct : VvcAps → ApsHead
@@ -183,3 +185,32 @@ scaling_data s =
 
 unfoldable pub scaling_in : ApsScaling → VvcAps
 scaling_in s = scaling_set s.aps_adaptation_parameter_set_id (byte_flag s.aps_chroma_present_flag) (byte_flag s.aps_extension_flag) (scaling_data s)
+
+-- ---- scaling lists of H.265
+
+unfoldable pub hevc_struct : HevcScalingListData → ApsHevcLists
+hevc_struct d =
+    record {
+      pred_mode_flag = flag_bytes d.pred_mode_flag;
+      pred_matrix_id_delta = d.pred_matrix_id_delta;
+      dc_coef_minus8 = d.dc_coef_minus8;
+      list_4x4 = d.list_4x4;
+      list_8x8 = d.list_8x8;
+      list_16x16 = d.list_16x16;
+      list_32x32 = d.list_32x32;
+    }
+
+unfoldable pub hevc_flags : ApsHevcLists → Bool
+hevc_flags s = are_flags s.pred_mode_flag
+
+unfoldable pub hevc_in : ApsHevcLists → HevcScalingListData
+hevc_in s =
+    record {
+      pred_mode_flag = byte_flags s.pred_mode_flag;
+      pred_matrix_id_delta = s.pred_matrix_id_delta;
+      dc_coef_minus8 = s.dc_coef_minus8;
+      list_4x4 = s.list_4x4;
+      list_8x8 = s.list_8x8;
+      list_16x16 = s.list_16x16;
+      list_32x32 = s.list_32x32;
+    }

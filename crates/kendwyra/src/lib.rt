@@ -10,6 +10,7 @@ pub mod fields;
 pub mod filters;
 mod flags;
 pub mod heads;
+pub mod hevc;
 pub mod kinds;
 mod lmcs;
 pub mod marks;

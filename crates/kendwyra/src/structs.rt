@@ -57,6 +57,19 @@ pub struct ApsScaling {
     pub scaling_list: [i32; 1792],
 }
 
+// Scaling lists of H.265: [sizeId][matrixId], [sizeId - 2][matrixId] and [matrixId][i], rows one after another.
+#[repr(C)]
+#[derive(Clone, Copy)]
+pub struct ApsHevcLists {
+    pub pred_mode_flag: [u8; 24],
+    pub pred_matrix_id_delta: [u32; 24],
+    pub dc_coef_minus8: [i32; 12],
+    pub list_4x4: [u8; 96],
+    pub list_8x8: [u8; 384],
+    pub list_16x16: [u8; 384],
+    pub list_32x32: [u8; 384],
+}
+
 // What every set has: its kind's number, its id and its two flags.
 #[repr(C)]
 #[derive(Clone, Copy)]

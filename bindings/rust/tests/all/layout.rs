@@ -3,6 +3,7 @@
 use kendwyra::{
     Alf, CcFilters, ChromaFilters, Ends, Head, Lmcs, LumaCurve, LumaFilters, LumaWeights, Scaling, UnitHeader,
 };
+use kendwyra::hevc::Lists;
 use std::mem::{align_of, offset_of, size_of, size_of_val};
 
 /// Checks a struct's size and alignment, and the offset and the size of each field; the fields are all that it has.
@@ -143,5 +144,19 @@ fn curve() {
         Ends: 8, 4;
         least: 0, 4;
         greatest: 4, 4;
+    }
+}
+
+#[test]
+fn hevc() {
+    layout! {
+        Lists: 1416, 4;
+        pred_mode_flag: 0, 24;
+        pred_matrix_id_delta: 24, 96;
+        dc_coef_minus8: 120, 48;
+        list_4x4: 168, 96;
+        list_8x8: 264, 384;
+        list_16x16: 648, 384;
+        list_32x32: 1032, 384;
     }
 }

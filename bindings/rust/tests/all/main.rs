@@ -7,6 +7,7 @@ mod factors;
 mod fields;
 mod filters;
 mod flags;
+mod hevc;
 mod layout;
 mod longest;
 mod made;
