@@ -43,6 +43,14 @@ fn print_kind(table: &Table, kind: ApsKind) {
     }
 }
 
+// A header and each filled place.
+pub fn print_table(table: &Table) {
+    text(b"kind id chroma ext\n");
+    print_kind(table, ApsKind::Alf);
+    print_kind(table, ApsKind::Lmcs);
+    print_kind(table, ApsKind::Scaling);
+}
+
 // A header and each filled place, or `refused` and the number; the stream's answer.
 pub fn print_sets(bytes: &[u8]) -> Result<Counts, Refusal>
     ensures { stream_answer result ≡ answer_to (stream bytes.now 2048) }
@@ -51,12 +59,7 @@ pub fn print_sets(bytes: &[u8]) -> Result<Counts, Refusal>
     let mut table = new_table();
     let answer = take_stream(&mut table, bytes, &mut work);
     match answer {
-        Ok(_) => {
-            text(b"kind id chroma ext\n");
-            print_kind(&table, ApsKind::Alf);
-            print_kind(&table, ApsKind::Lmcs);
-            print_kind(&table, ApsKind::Scaling);
-        }
+        Ok(_) => print_table(&table),
         Err(why) => {
             text(b"refused ");
             number(u32::from(why).into());

@@ -1,0 +1,15 @@
+pub mod PieceLaws
+pub mod CollectLaws
+pub mod RecordedLaws
+pub mod TakeLaws
+pub mod FoldLaws
+pub mod PushLaws
+pub mod EventLaws
+pub mod FollowLaws
+pub mod ReachLaws
+pub mod AnyCut
+pub mod LengthLaws
+pub mod StreamLaws
+pub mod Recorded
+pub mod RunLaws
+pub mod BatchLaws
