@@ -1,4 +1,5 @@
-/* H.266 adaptation parameter sets: sets read and written, the table of those in force, its marks, and the list at a cut.
+/* H.266 adaptation parameter sets: sets read and written, the table of those in force, its marks, and the list at a cut;
+ * what a set means; and scaling lists of H.265.
  *
  * Every call answers 0 or a refusal's number. A refusal changes nothing but what is said beside it; after 0, bytes of
  * an output past those written stay as they were. No bytes, numbers or lengths make a call reach past what it is given.
