@@ -1,19 +1,21 @@
 -- The steps of alf_data( ), as its readers take them.
 use mathlib.Core.Path.{◌≡◌, refl, sym, ap}
 use mathlib.Core.Bool.{Bool, true, false, cond, ◌&&◌}
+use mathlib.Core.List.{List}
 use Prim.Native.Nat.{ℕ, ◌+◌, ◌*◌, ◌/◌, ◌≤◌, ◌<◌}
 use native.Mathlib.Nat.{mul_comm, div-lt_iff_lt-mul, le-div_iff_mul-le}
 use native.Mathlib.Omega.{arith}
 use borrow.Author.Tests.{ltb-true, ltb-false, le-ltb, le-leb, lt-leb}
 use lib.Dec.{leb, ltb}
 use lib.ListN.{replicate}
-use Rattle.aps.specs.Codec.{Codec, u, judged, when, each}
-use Rattle.aps.specs.Elements.{no_number, no_signed, apart}
-use Rattle.bitstream.specs.Outcome.{Outcome, value, map_outcome}
+use Rattle.aps.specs.Codec.{Codec, u, via, judged, when, each}
+use Rattle.aps.specs.Elements.{flag, no_flag, no_number, no_signed, apart}
+use Rattle.bitstream.specs.Outcome.{Outcome, value, refused, map_outcome}
+use Rattle.bitstream.specs.Fields.{lacks}
 use Rattle.aps.specs.AlfSyntax.{ceil_log2, coefficient, luma_coefficients, luma_clips}
 use Rattle.aps.specs.AlfSyntax.{Luma, luma_syntax, luma, to_luma, no_luma}
 use Rattle.aps.specs.AlfSyntax.{Chroma, chroma_syntax, chroma, to_chroma, no_chroma}
-use Rattle.aps.specs.AlfSyntax.{Cc, cc_syntax, cc, to_cc, no_cc, to_alf}
+use Rattle.aps.specs.AlfSyntax.{Cc, cc_syntax, cc, to_cc, no_cc, alf, alf_syntax, to_alf}
 use Rattle.aps.specs.Reads.{Reads}
 use Rattle.aps.specs.declared.reader.Reader.{Reader}
 use Rattle.aps.specs.declared.alf.VvcAlfLuma.{VvcAlfLuma}
@@ -21,7 +23,13 @@ use Rattle.aps.specs.declared.alf.VvcAlfChroma.{VvcAlfChroma}
 use Rattle.aps.specs.declared.alf.VvcAlfCcFilters.{VvcAlfCcFilters}
 use Rattle.aps.specs.declared.alf.VvcAlfData.{VvcAlfData}
 use Rattle.aps.specs.ApsSyntax.{zero_alf}
-use Rattle.aps.proofs.EachLaws.{each_same}
+use Rattle.aps.proofs.Lawful.{Lawful, total}
+use Rattle.aps.proofs.FieldLaws.{u-law}
+use Rattle.aps.proofs.CodecLaws.{judged-law, when-law}
+use Rattle.aps.proofs.EachLaws.{each-law, each_same}
+use Rattle.aps.proofs.ElementLaws.{no_number-is, no_signed-is, apart-law}
+use Rattle.aps.proofs.AlfLaws.{coefficient-law}
+use Rattle.aps.proofs.FieldSteps.{none-lacking, flag-read, run-lacking}
 use Rattle.aps.proofs.ReaderLaws.{stays, reads-via, reads-sent, reads-unsent}
 
 -- an entry of a flat array is in a row that is sent, or below the count of entries sent
@@ -58,6 +66,28 @@ module _ (n : ℕ) where
 -- an index is sent where there is more than one filter
 abbrev pub index : ℕ → Codec ℕ
 index count-1 = when (ltb 0 count-1) no_number (judged (λ x. leb x count-1) (u (ceil_log2 (count-1 + 1))))
+
+-- an index is lawful
+pub index-law : (count-1 : ℕ) → Lawful (index count-1) (ceil_log2 (count-1 + 1))
+index-law count-1 = when-law (ltb 0 count-1) no_number-is λ s. judged-law (λ x. leb x count-1) (u-law (ceil_log2 (count-1 + 1)))
+
+-- coefficients, the first n of N sent
+pub first-coefficients : (N n : ℕ) → Lawful (apart (each N λ i. when (ltb i n) no_signed coefficient)) (total 0 N (λ i. 16))
+first-coefficients N n = apart-law (each-law 0 N λ i b. when-law (ltb i n) no_signed-is λ s. coefficient-law)
+
+module _ (s : List ℕ) (p : ℕ) where
+  flags-lacking : lacks s p 4 ≡ true → (alf_syntax true).read s p ≡ refused 1
+  unfolding alf_syntax when
+  flags-lacking =
+      run-lacking s p 3 flag _ 1 _ (flag-read s p)
+      (λ a. run-lacking s (p + 1) 2 (when true no_flag flag) _ 1 _ (flag-read s (p + 1))
+      (λ b. run-lacking s (p + 1 + 1) 1 (when true no_flag flag) _ 1 _ (flag-read s (p + 1 + 1))
+      (λ c. run-lacking s (p + 1 + 1 + 1) 0 (when true no_flag flag) _ 1 _ (flag-read s (p + 1 + 1 + 1)) (λ d m. absurd (none-lacking s _ m)))))
+
+  -- bits are lacking for one of the four flags
+  pub alf-lacking : lacks s p 4 ≡ true → (alf true).read s p ≡ refused 1
+  unfolding alf via
+  alf-lacking l = rw (flags-lacking l)
 
 -- filters before any is read
 pub blank-luma : {d : VvcAlfLuma} → d ≡ to_luma no_luma.default

@@ -30,7 +30,7 @@ row-of-clips true rows e = each_same 6 λ j l. let f : 6 * rows ≡ 6 = omega ar
 row-of-clips false rows e = each_same 6 λ j l. let f : 6 * rows ≡ 0 = omega arith in rw (f, le-ltb j 0 (omega arith))
 
 -- an alternative that is sent is read as the only one is
-alternative-sent : (clip : Bool) (n i : ℕ) → i ≤ n → alternative clip n i ≡ alternative clip 0 0
+pub alternative-sent : (clip : Bool) (n i : ℕ) → i ≤ n → alternative clip n i ≡ alternative clip 0 0
 unfolding alternative
 alternative-sent clip n i h =
     ap (λ (b : Bool). (each 6 λ j. when b no_signed coefficient) ▷ λ coeff. each 6 λ j. when (clip && b) no_number (u 2)) (le-leb i n h)
@@ -38,7 +38,8 @@ alternative-sent clip n i h =
 abbrev pub blank : List (ℕ × Bool) × List ℕ
 blank = (replicate 6 (0, false), replicate 6 0)
 
-alternative-absent : (clip : Bool) (n i : ℕ) (s : List ℕ) (p : ℕ) → n < i → (alternative clip n i).read s p ≡ value blank p
+-- and one that is not sent is what is inferred
+pub alternative-absent : (clip : Bool) (n i : ℕ) (s : List ℕ) (p : ℕ) → n < i → (alternative clip n i).read s p ≡ value blank p
 unfolding alternative ◌▷◌ each_from when
 alternative-absent true n i s p h = rw (lt-leb i n h)
 alternative-absent false n i s p h = rw (lt-leb i n h)

@@ -6,7 +6,7 @@ use Prim.Native.Nat.{ℕ, ◌+◌, ◌*◌, ◌≤◌}
 use native.Mathlib.Nat.{add-zero, add_assoc}
 use native.Mathlib.Omega.{arith}
 use lib.ListN.{length, length-append}
-use Rattle.bitstream.specs.Outcome.{Outcome, value, refused, ◌then◌}
+use Rattle.bitstream.specs.Outcome.{Outcome, value, refused, map_outcome, ◌then◌}
 use Rattle.bitstream.specs.Bits.{Holds, AreBits}
 use Rattle.bitstream.proofs.CodeLaws.{value-refused}
 use Rattle.bitstream.proofs.HoldLaws.{bits-append, holds-append, holds-join, holds-end}
@@ -56,6 +56,15 @@ pub inside : {A : Type 0} {c : Codec A} {m : ℕ} → Lawful c m → (s : List �
 inside {c = c} C s p a q e l =
     let (h, n) = C.exact s p a q e in
     omega (arith, holds-inside s p (c.emit a) h l)
+
+module _ {A : Type 0} {c : Codec A} {m : ℕ} (C : Lawful c m) (s : List ℕ) where
+  -- what was made of a value ends where it does
+  pub made_inside : {B : Type 0} (f : A → B) (p : ℕ) {x : B} {q : ℕ} → map_outcome f (c.read s p) ≡ value x q → p ≤ length s * 8 → q ≤ length s * 8
+  made_inside {B} f p {x} {q} e h = go (c.read s p) (λ a r g. inside C s p a r g h) e
+    where
+      go : (o : Outcome A) → ((a : A) (r : ℕ) → o ≡ value a r → r ≤ length s * 8) → map_outcome f o ≡ value x q → q ≤ length s * 8
+      go (value a r) g e = let same : r ≡ q = cc in rw (← same) (g a r refl)
+      go (refused n) g e = absurd (value-refused (sym e))
 
 -- ---- c, then what its value says
 

@@ -64,6 +64,11 @@ pub ue_to-law : (most : ℕ) → most < 4294967295 → Lawful (ue_to most) (2 * 
 unfolding ue_to judged ue
 ue_to-law most h = bound-law (2 * ue_zeros most + 1) (λ v o. ue-most most v h (ue_to-le most v o)) (judged-law (λ v. leb v most) ue-law)
 
+-- and so it is whatever most is
+pub ue_to-any : (most : ℕ) → Lawful (ue_to most) 63
+unfolding ue_to
+ue_to-any most = judged-law (λ v. leb v most) ue-law
+
 -- a flag as a number is at most 1
 pub flag-most : (b : Bool) → cond b 1 0 ≤ 1
 flag-most true = omega arith

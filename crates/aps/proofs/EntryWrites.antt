@@ -1,6 +1,6 @@
 -- Arrays as the writer puts them: of which the first entries are sent, or none; two beside each other, and rows of them.
 use mathlib.Core.Path.{◌≡◌, refl, sym, ap, ◌∙◌}
-use mathlib.Core.Bool.{Bool, true, false, cond, ◌&&◌}
+use mathlib.Core.Bool.{Bool, true, false, cond, ◌&&◌, and-false}
 use mathlib.Core.List.{List, [], ◌∷◌}
 use Prim.Native.Nat.{ℕ, zero, suc, ◌+◌, ◌-◌, ◌*◌, ◌≤◌, ◌<◌}
 use native.Mathlib.Nat.{mul-zero, mul-suc}
@@ -26,6 +26,12 @@ use Rattle.aps.proofs.WriterLaws.{writes-none, writes-nil, writes-cons, writes-v
 unsent-written : (b : Bool) (w : Writer) → written (unsent b) w ≡ cond b (value (kept w) w.at) (refused 2)
 unsent-written true w = refl
 unsent-written false w = refl
+
+-- a test that fails among others
+pub one-fails : (ts : List Bool) (i : ℕ) → get_or ts i true ≡ false → every (λ t. t) ts ≡ false
+one-fails [] i e = e
+one-fails (t ∷ ts) zero e = rw e
+one-fails (t ∷ ts) (suc i) e = rw (one-fails ts i e) (and-false t)
 
 -- ---- the first n entries of an array
 

@@ -35,6 +35,10 @@ module _ (s : List ℕ) (p n : ℕ) where
   unfolding lacks
   lacks-past h l = rw (lt-ltb _ _ h, lt-ltb _ _ l)
 
+-- no bits are never lacking
+pub none-lacking : (s : List ℕ) (p : ℕ) → lacks s p 0 ≡ true → ⊥
+none-lacking s p e = let (a, b) = lacks-true s p 0 e in omega arith
+
 -- a part of bits that are there
 pub lacks-part : (s : List ℕ) (p n q m : ℕ) → lacks s p n ≡ false → p ≤ q → q + m ≤ p + n → lacks s q m ≡ false
 unfolding lacks
@@ -90,6 +94,17 @@ flag-there s p {b} {q} e = go (lacks s p 1) refl (e ∙ flag-read s p)
     go : (t : Bool) → lacks s p 1 ≡ t → value b q ≡ cond t (refused 1) (value (not (eqb (field_at s p 1) 0)) (p + 1)) → (lacks s p 1 ≡ false) × (b ≡ not (eqb (field_at s p 1) 0)) × (q ≡ p + 1)
     go true f g = absurd (value-refused g)
     go false f g = (f, cc, cc)
+
+module _ {B : Type 0} (s : List ℕ) (p n : ℕ) where
+  -- fields without a rule between them: bits are lacking for one of them
+  pub run-lacking : {A : Type 0} (c : Codec A) (k : A → Codec B) (w : ℕ) (a : A) → c.read s p ≡ cond (lacks s p w) (refused 1) (value a (p + w))
+      → ((a : A) → lacks s (p + w) n ≡ true → (k a).read s (p + w) ≡ refused 1) → lacks s p (w + n) ≡ true → (c ▷ k).read s p ≡ refused 1
+  unfolding ◌▷◌
+  run-lacking {A} c k w a e f l = rw e (go (lacks s p w) refl)
+    where
+      go : (b : Bool) → lacks s p w ≡ b → ◌then◌ {B = A × B} (cond b (refused 1) (value a (p + w))) (λ a q. ◌then◌ ((k a).read s q) (λ b r. value (a, b) r)) ≡ refused 1
+      go true g = refl
+      go false g = rw (f a (lacks_rest s p w n g l))
 
 -- the first n entries of an array are of w bits each, and bits are lacking for one of them
 pub each-lacking : (k : ℕ → Codec ℕ) (w i n m : ℕ) (s : List ℕ) (p : ℕ) → n ≤ m → ((j q : ℕ) → i ≤ j → j < i + n → (k j).read s q ≡ (u w).read s q)

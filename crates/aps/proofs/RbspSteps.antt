@@ -33,7 +33,7 @@ use Rattle.aps.specs.declared.aps.VvcAps.{VvcAps}
 use Rattle.aps.specs.declared.reader.Reader.{Reader}
 use Rattle.aps.specs.declared.opened.Opened.{Opened}
 use Rattle.aps.specs.Reads.{Reads}
-use Rattle.aps.proofs.FieldSteps.{lacks-part, u-here, u-there, flag-here, flag-there}
+use Rattle.aps.proofs.FieldSteps.{none-lacking, lacks-part, u-read, u-here, u-there, flag-read, flag-here, flag-there, run-lacking}
 use Rattle.aps.proofs.FieldLaws.{lacks-none, lacks-inside}
 
 -- the set that a payload makes
@@ -56,6 +56,18 @@ set-of-data k id chroma (of_lmcs d) x = refl
 set-of-data k id chroma (of_scaling es) x = refl
 
 module _ (s : List ℕ) where
+  syntax-lacking : lacks s 0 9 ≡ true → aps_syntax.read s 0 ≡ refused 1
+  unfolding aps_syntax
+  syntax-lacking =
+      run-lacking s 0 6 (u 3) _ 3 _ (u-read 3 s 0)
+      (λ kind. run-lacking s 3 1 (u 5) _ 5 _ (u-read 5 s 3)
+      (λ id. run-lacking s 8 0 flag _ 1 _ (flag-read s 8) (λ chroma m. absurd (none-lacking s _ m))))
+
+  -- bits are lacking for the kind, the id or the chroma flag
+  pub head-lacking : lacks s 0 9 ≡ true → read_rbsp s ≡ refused 1
+  unfolding read_rbsp aps via
+  head-lacking l = rw (syntax-lacking l)
+
   pub not-read : {n : ℕ} → refused n ≡ aps.read s 0 → read_rbsp s ≡ refused n
   unfolding read_rbsp
   not-read e = rw (← e)

@@ -2,12 +2,13 @@
 use mathlib.Core.Path.{◌≡◌, refl, sym, ap, ◌∙◌}
 use mathlib.Core.List.{List, [], ◌∷◌, ◌++◌, append_assoc}
 use Prim.Native.Nat.{ℕ, zero, suc, ◌+◌, ◌-◌, ◌*◌, ◌≤◌, ◌<◌}
-use native.Mathlib.Nat.{zero-add, add-suc, mul-zero, mul-suc, suc-mul}
+use native.Mathlib.Nat.{add-zero, zero-add, add-suc, suc-add, mul-zero, mul-suc, suc-mul}
+use native.Mathlib.Numerals.{add-one}
 use native.Mathlib.Omega.{arith}
 use borrow.Rule.Slice.PartMut.{put_mid}
-use lib.ListN.{length, take, drop, set, replicate, length-set, length-drop, length-append}
+use lib.ListN.{length, get_or, take, drop, set, replicate, length-set, length-drop, length-append}
 use Rattle.std.proofs.lemmas.List.{drop-replicate}
-use lib.Seq.{sets, sets-eq, take-set-le, drop-set-add, length-take-le, take_at, drop_at, drop-drop}
+use lib.Seq.{sets, sets-eq, take-suc, take-set-le, drop-set-add, length-take-le, take_at, drop_at, drop-drop}
 use Rattle.aps.specs.Elements.{zipped, rows_of}
 use Rattle.aps.proofs.Steps.{zipped-set}
 
@@ -24,6 +25,17 @@ module _ {A : Type 0} where
       let f : drop (o + length xs) (sets l o xs) ≡ drop (o + length xs) l =
       rw (sets-eq xs l o h) (drop_at (take o l ++ xs) (drop (o + length xs) l) (o + length xs) (length-append (take o l) xs ∙ ap (λ (m : ℕ). m + length xs) (length-take-le o l (omega arith)))) in
       f ∙ ap (λ (m : ℕ). drop m l) (omega arith) ∙ sym (drop-drop (length xs) o l) ∙ rw e (drop-replicate (length xs) n v)
+
+  sets-snoc : (xs l : List A) (o : ℕ) (x : A) → sets l o (xs ++ x ∷ []) ≡ set (sets l o xs) (o + length xs) x
+  sets-snoc [] l o x = rw (add-zero o)
+  sets-snoc (y ∷ xs) l o x = rw (add-suc o (length xs), ← suc-add o (length xs)) (sets-snoc xs (set l o y) (suc o) x)
+
+  -- one entry more of a row
+  pub sets_more : (l l' : List A) (o : ℕ) (xs : List A) (j : ℕ) (d : A) → j < length xs → l' ≡ sets l o (take j xs) → set l' (o + j) (get_or xs j d) ≡ sets l o (take (j + 1) xs)
+  sets_more l l' o xs j d h e =
+      let n : length (take j xs) ≡ j = length-take-le j xs (omega arith) in
+      let f = sets-snoc (take j xs) l o (get_or xs j d) in
+      rw (e, add-one j, take-suc xs j d h) (sym (rw n at f))
 
   take-sets : (xs l : List A) (n o : ℕ) → n ≤ o → take n (sets l o xs) ≡ take n l
   take-sets [] l n o h = refl

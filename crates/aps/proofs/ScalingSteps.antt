@@ -15,9 +15,11 @@ use Rattle.bitstream.specs.Outcome.{Outcome, value, refused, map_outcome, ◌the
 use Rattle.aps.specs.Codec.{Codec, ◌▷◌, via, judged, when, each_from}
 use Rattle.aps.specs.Elements.{flag, se, se_in, no_flag, no_pair}
 use Rattle.aps.specs.Reads.{Reads}
-use Rattle.aps.specs.ScalingSyntax.{skipped, entries, id_coded, just, step, step_at, sums, cons, Entry, coefficients, dc_at, delta_at, no_entries, no_entry, entry_syntax, id_at}
+use Rattle.aps.specs.ScalingSyntax.{skipped, entries, max_id_delta, id_coded, just, step, step_at, sums, cons, Entry, coefficients, dc_at, delta_sent, delta_at, no_entries, no_entry, entry_syntax, id_at}
 use Rattle.aps.specs.declared.reader.Reader.{Reader}
 use Rattle.aps.proofs.Gives.{Gives, given, gives_then, gives-▷, gives-when}
+use Rattle.aps.proofs.CodecLaws.{when-law, inside}
+use Rattle.aps.proofs.ElementLaws.{no_number-is, ue_to-any}
 use Rattle.aps.proofs.ScalingLaws.{entries-le}
 use Rattle.aps.proofs.SignedLaws.{add-abs}
 
@@ -147,6 +149,10 @@ module _ (id n : ℕ) (dc : ℤ) {w0 : Reader} where
 
 pub dc-small : (id : ℕ) (s : List ℕ) (p : ℕ) → Gives Small ((dc_at id).read s p)
 dc-small id s p = gives-when (ltb 13 id) (just (pos 0)) se8 Small s p (se8-small s p) (omega arith)
+
+-- the delta ends inside the input
+pub delta-inside : (id : ℕ) (used : Bool) (s : List ℕ) (p : ℕ) {v q : ℕ} → (delta_at id used).read s p ≡ value v q → p ≤ length s * 8 → q ≤ length s * 8
+delta-inside id used s p {v} {q} = inside (when-law (delta_sent id used) no_number-is λ t. ue_to-any (max_id_delta id)) s p v q
 
 -- a list has at most 64 entries
 abbrev pub Short : Entry → Type 0

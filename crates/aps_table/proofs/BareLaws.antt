@@ -1,8 +1,8 @@
 -- A table without a set: places looked at one after another, and its list.
-use borrow.Author.Tests.{eqb-true, ne_eqb, le-ltb}
-use mathlib.Core.Path.{◌≡◌, refl, sym, ◌∙◌}
+use borrow.Author.Tests.{eqb-true, eqb-false, ne_eqb, le-ltb}
+use mathlib.Core.Path.{◌≡◌, refl, sym, ap, ◌∙◌}
 use mathlib.Core.Bool.{true, false}
-use mathlib.Core.List.{List, [], ◌∷◌}
+use mathlib.Core.List.{List, [], ◌∷◌, ◌++◌}
 use mathlib.Core.Option.{Option, none, some}
 use Prim.Native.Nat.{ℕ, ◌+◌}
 use native.Mathlib.Omega.{arith}
@@ -10,7 +10,7 @@ use lib.Dec.{eqb}
 use lib.ListN.{length, drop}
 use Rattle.bitstream.specs.Outcome.{value}
 use Rattle.bitstream.specs.Escapes.{put_bytes}
-use Rattle.aps_table.specs.Places.{HeldAps, Entries, names, present, filled_among, filled, held}
+use Rattle.aps_table.specs.Places.{HeldAps, Entries, ids, names, present, filled_among, filled, held}
 use Rattle.aps_table.specs.List.{listed, any_extended, list_due, write_list}
 
 -- no set
@@ -47,6 +47,31 @@ module _ (b : Entries) where
   unfolding filled_among
   bare-done index e h =
       let w : filled b ≡ 0 = e ∙ rw h in
+      rw w
+
+  -- ---- kinds looked at one after another
+
+  filled-append : (ns ms : List (ℕ × ℕ)) → filled_among (ns ++ ms) b ≡ filled_among ns b + filled_among ms b
+  unfolding filled_among
+  filled-append [] ms = omega arith
+  filled-append (n ∷ ns) ms = omega (arith, filled-append ns ms)
+
+  -- all places
+  pub filled-kinds : filled b ≡ filled_among (ids 0 0 8) b + (filled_among (ids 1 0 4) b + filled_among (ids 2 0 8) b)
+  filled-kinds = filled-append (ids 0 0 8) (ids 1 0 4 ++ ids 2 0 8) ∙ ap (λ (m : ℕ). filled_among (ids 0 0 8) b + m) (filled-append (ids 1 0 4) (ids 2 0 8))
+
+  -- the first kind with a set tells it
+  pub bare-first : eqb (filled_among (ids 0 0 8) b) 0 ≡ false → false ≡ eqb (filled b) 0
+  bare-first e = sym (ne_eqb (filled b) 0 (λ z. eqb-false (filled_among (ids 0 0 8) b) 0 e (omega (arith, filled-kinds, z))))
+
+  -- and so does the second
+  pub bare-second : eqb (filled_among (ids 1 0 4) b) 0 ≡ false → false ≡ eqb (filled b) 0
+  bare-second e = sym (ne_eqb (filled b) 0 (λ z. eqb-false (filled_among (ids 1 0 4) b) 0 e (omega (arith, filled-kinds, z))))
+
+  -- where neither has one, the third tells it
+  pub bare-third : eqb (filled_among (ids 0 0 8) b) 0 ≡ true → eqb (filled_among (ids 1 0 4) b) 0 ≡ true → eqb (filled_among (ids 2 0 8) b) 0 ≡ eqb (filled b) 0
+  bare-third e f =
+      let w : filled b ≡ filled_among (ids 2 0 8) b = omega (arith, filled-kinds, eqb-true (filled_among (ids 0 0 8) b) 0 e, eqb-true (filled_among (ids 1 0 4) b) 0 f) in
       rw w
 
   -- ---- the list

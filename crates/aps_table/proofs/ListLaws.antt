@@ -7,6 +7,7 @@ use mathlib.Core.Option.{Option, none, some}
 use mathlib.Core.Logic.{◌⊎◌, inl, inr}
 use Prim.Native.Nat.{ℕ, zero, suc, ◌+◌, ◌≤◌}
 use native.Mathlib.Nat.{add-zero, zero-add, add_assoc}
+use native.Mathlib.Numerals.{add-one}
 use native.Mathlib.Omega.{arith}
 use lib.Dec.{ltb, eqb}
 use lib.ListN.{length, take, drop, length-take, length-drop}
@@ -25,7 +26,7 @@ use Rattle.aps.specs.Writing.{bytes_due, rbsp_due, unit_of}
 use Rattle.aps.proofs.RbspWrites.{due-taken, taken-due}
 use Rattle.aps.proofs.UnitSteps.{headed}
 use Rattle.aps_table.proofs.PlaceReads.{place-parts}
-use Rattle.aps_table.specs.Places.{place_size, place_at, HeldAps, Entries, names, kind_in, id_in, extended, place_bytes, read_place, under, held}
+use Rattle.aps_table.specs.Places.{place_size, place_at, HeldAps, Entries, ids, names, kind_in, id_in, extended, place_bytes, read_place, under, held}
 use Rattle.aps_table.specs.List.{coded, entry, entry_due, joined, listed, is_extended, any_extended, list_due, write_list}
 use Rattle.aps_table.specs.Inner.{most_listed}
 
@@ -47,6 +48,31 @@ joined-joined (value l m) (value k n) (value j i) = rw (append_assoc l k j, add_
 joined-joined (value l m) (value k n) (refused e) = refl
 joined-joined (value l m) (refused e) q = refl
 joined-joined (refused e) p q = refl
+
+-- ---- the entries of places
+
+module _ (b : Entries) where
+  -- those of places and then of others
+  pub listed-append : (ns ms : List (ℕ × ℕ)) → listed (ns ++ ms) b ≡ joined (listed ns b) (listed ms b)
+  unfolding listed
+  listed-append [] ms = sym (joined-first (listed ms b))
+  listed-append (n ∷ ns) ms =
+      let e = entry (b n.0 n.1) in
+      ap (joined e) (listed-append ns ms) ∙ sym (joined-joined e (listed ns b) (listed ms b))
+
+  -- those of n ids and of one more
+  listed_suc : (k i n : ℕ) → listed (ids k i (suc n)) b ≡ joined (listed (ids k i n) b) (entry (b k (i + n)))
+  unfolding listed
+  listed_suc k i zero = rw (add-zero i) (joined-last (entry (b k i)) ∙ sym (joined-first (entry (b k i))))
+  listed_suc k i (suc n) =
+      let e = entry (b k i) in
+      let w : suc i + n ≡ i + suc n = omega arith in
+      ap (joined e) (listed_suc k (suc i) n) ∙ sym (joined-joined e (listed (ids k (suc i) n) b) (entry (b k (suc i + n))))
+      ∙ ap (λ (m : ℕ). joined (joined e (listed (ids k (suc i) n) b)) (entry (b k m))) w
+
+  -- and from id 0 on
+  pub listed_next : (k n : ℕ) → listed (ids k 0 (n + 1)) b ≡ joined (listed (ids k 0 n) b) (entry (b k n))
+  listed_next k n = rw (add-one n) (listed_suc k 0 n ∙ ap (λ (m : ℕ). joined (listed (ids k 0 n) b) (entry (b k m))) (zero-add n))
 
 -- ---- a set held
 

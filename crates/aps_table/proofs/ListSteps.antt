@@ -14,16 +14,16 @@ use Rattle.bitstream.specs.Escapes.{put_bytes}
 use Rattle.bitstream.proofs.CodeLaws.{value-refused}
 use Rattle.bitstream.proofs.EscapeLaws.{escape-most}
 use Rattle.bitstream.proofs.WriteLaws.{wrote}
-use Rattle.aps.specs.Kinds.{most_bytes}
+use Rattle.aps.specs.Kinds.{largest_id, most_bytes}
 use Rattle.aps.specs.Unit.{is_aps_header}
 use Rattle.aps.specs.declared.unit_header.UnitHeader.{UnitHeader}
 use Rattle.aps.specs.Writing.{unit_of, write_nal}
-use Rattle.aps_table.specs.Places.{HeldAps, names, held, kind_in}
+use Rattle.aps_table.specs.Places.{HeldAps, Entries, ids, names, held, kind_in}
 use Rattle.aps_table.specs.List.{coded, entry, entry_due, joined, listed, write_list}
 use Rattle.aps_table.specs.Inner.{so_far, most_listed}
 use Rattle.aps_table.specs.declared.list.CutList.{CutList}
 use Rattle.aps_table.specs.declared.list.TheConstants.{LIST_BYTES}
-use Rattle.aps_table.proofs.ListLaws.{held-some, joined-first, joined-last, joined-joined, listed-due, entry-most}
+use Rattle.aps_table.proofs.ListLaws.{held-some, joined-first, joined-last, joined-joined, listed-append, listed_next, listed-due, entry-most}
 
 -- ---- a unit after its start code
 
@@ -102,7 +102,22 @@ entry-within k p (some a) m l q w e = go (entry_due a) refl e
         omega arith
     go (refused n) f e = absurd (value-refused e)
 
+module _ (b : Entries) (k : ℕ) (o : Outcome (List ℕ)) where
+  -- the entries of a kind are put after o: one more
+  pub kind-next : (i : ℕ) (p q : Outcome (List ℕ)) → p ≡ joined o (listed (ids k 0 i) b) → q ≡ joined p (entry (b k i)) → q ≡ joined o (listed (ids k 0 (i + 1)) b)
+  kind-next i p q e f =
+      f ∙ ap (λ (x : Outcome (List ℕ)). joined x (entry (b k i))) e ∙ joined-joined o (listed (ids k 0 i) b) (entry (b k i)) ∙ ap (joined o) (sym (listed_next b k i))
+
 -- ---- all places
+
+-- the three kinds one after another
+pub all_listed : (b : Entries) (l m n : Outcome (List ℕ)) → l ≡ joined (value [] 0) (listed (ids 0 0 (largest_id 0 + 1)) b) → m ≡ joined l (listed (ids 1 0 (largest_id 1 + 1)) b) → n ≡ joined m (listed (ids 2 0 (largest_id 2 + 1)) b) → n ≡ listed names b
+all_listed b l m n e f g =
+    let x = listed (ids 0 0 (largest_id 0 + 1)) b in
+    let y = listed (ids 1 0 (largest_id 1 + 1)) b in
+    let z = listed (ids 2 0 (largest_id 2 + 1)) b in
+    let u : l ≡ x = e ∙ joined-first x in
+    rw (g, f, u) (joined-joined x y z ∙ ap (joined x) (sym (listed-append b (ids 1 0 (largest_id 1 + 1)) (ids 2 0 (largest_id 2 + 1)))) ∙ sym (listed-append b (ids 0 0 (largest_id 0 + 1)) (ids 1 0 (largest_id 1 + 1) ++ ids 2 0 (largest_id 2 + 1))))
 
 -- the most bytes of the units of places
 unfoldable pub room : List (ℕ × ℕ) → ℕ

@@ -16,7 +16,7 @@ use Rattle.std.specs.Prelude.{Option, Some, None}
 use Rattle.std.specs.Option.{MatchOption}
 use Rattle.std.specs.List.{position_or_len}
 use Rattle.aps_table.specs.Split.{Units, prepend, ended, gap, body}
-use Rattle.aps_table.specs.Inner.{Skipped, InUnit, UnitEnd, between}
+use Rattle.aps_table.specs.Inner.{Skipped, InUnit, UnitEnd, UnitAt, between, splits}
 use Rattle.aps_table.proofs.SplitLaws.{prepend-nil, prepend-prepend}
 
 -- zero bytes outside of a unit, up to the first other byte or the end
@@ -148,6 +148,10 @@ module _ (s : List ℕ) (e : ℕ) where
   last_end (suc (suc (suc k))) h l m q p = absurd (omega arith)
 
 module _ (s : List ℕ) (a : ℕ) where
+  -- at its start
+  pub in-unit : a ≤ length s → InUnit s a a
+  in-unit h = record { from = omega arith; to = h; is = rw sub_self (sym (prepend-nil (body 0 (drop a s)))) }
+
   -- the bytes of two steps
   parts : (e r : ℕ) → a ≤ e → e ≤ r → (x : Units) → prepend (between s a e) (prepend (between s e r) x) ≡ prepend (between s a r) x
   parts e r h k x =
@@ -162,6 +166,14 @@ module _ (s : List ℕ) (a : ℕ) where
     from = omega (arith, u.from, v.from);
     to = v.to;
     is = u.is ∙ ap (prepend (between s a e)) v.is ∙ parts e r u.from v.from (body 0 (drop r s));
+  }
+
+  -- and so is one that ends the unit
+  pub ends_at : (e r : ℕ) → InUnit s a e → UnitEnd s e r → UnitEnd s a r
+  ends_at e r u v = record {
+    from = omega (arith, u.from, v.from);
+    to = v.to;
+    ends = u.is ∙ ap (prepend (between s a e)) v.ends ∙ parts e r u.from v.from (ended (gap 0 (drop r s)));
   }
 
 -- the end of a unit that starts after a bytes of s, from its own bytes
@@ -212,3 +224,11 @@ module _ (s : List ℕ) (i r : ℕ) (k : Skipped s i r) where
 
     pub next-starts : get_or s r 0 ≡ 1 → 2 ≤ r - i → gap 0 (drop i s) ≡ body 0 (drop (r + 1) s)
     next-starts e l = k.skips ∙ rw (byte s r (r + 1) refl h, e) (gap-starts (r - i) (drop (r + 1) s) l)
+
+splits-ended : (v : List ℕ) (r : Units) → splits (prepend v (ended r)) ≡ splits r
+splits-ended v none = refl
+splits-ended v (some us) = refl
+
+-- past a unit the split holds as it does from the unit's end on
+pub splits-next : {s : List ℕ} {i a e : ℕ} → UnitAt s i a e → splits (gap 0 (drop i s)) ≡ splits (gap 0 (drop e s))
+splits-next {s} {a} {e} f = ap splits f.is ∙ splits-ended (between s a e) (gap 0 (drop e s))

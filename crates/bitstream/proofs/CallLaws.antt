@@ -119,6 +119,15 @@ module _ (s : List ℕ) (p : ℕ) (h : length s ≤ 65536) (l : p ≤ 1048576) w
 
 -- ---- what an answer with a value says
 
+-- a u is of 32 bits or fewer, and is the bits that stand there
+pub u-value : (s : List ℕ) (p n : ℕ) {v q : ℕ} → value v q ≡ u_at s p n → (n ≤ 32) × (v ≡ field_at s p n) × (q ≡ p + n)
+unfolding u_at read_u
+u-value s p n {v} {q} e = go (ltb 32 n) refl (within-value s p _ e).2
+  where
+    go : (b : Bool) → ltb 32 n ≡ b → value v q ≡ cond b (refused 2) (value (field_at s p n) (p + n)) → (n ≤ 32) × (v ≡ field_at s p n) × (q ≡ p + n)
+    go true e f = absurd (value-refused f)
+    go false e f = (ltb-false _ _ e, (cc), (cc))
+
 -- the largest ue is 4,294,967,294
 pub ue-below : (s : List ℕ) (p : ℕ) {o : Outcome ℕ} → o ≡ ue_at s p → BelowMost o
 unfolding ue_at
