@@ -151,17 +151,17 @@ impl<P: Coded> Payload for P {
 
     fn parse_rbsp(bytes: &[u8]) -> Result<Reading<ApsOf<Self>>, Refusal> {
         let opened = open_rbsp(bytes)?;
-        let mut payload = P::default();
         if opened.head.kind != P::KIND {
             let passed = pass_payload(opened)?;
             return Ok(Reading {
                 value: ApsOf {
                     head: passed.value,
-                    payload,
+                    payload: P::default(),
                 },
                 end: passed.end,
             });
         }
+        let mut payload = P::default();
         let reading = P::read(opened, &mut payload)?;
         Ok(Reading {
             value: ApsOf {

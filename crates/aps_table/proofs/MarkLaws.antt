@@ -1,13 +1,13 @@
 -- What the marks' bytes keep: a mark that is set keeps the table's bytes, and every other mark what it kept.
 use mathlib.Core.Path.{◌≡◌, sym, ap, ◌∙◌}
 use mathlib.Core.Bool.{true, false, not}
-use mathlib.Core.List.{List, ◌∷◌}
+use mathlib.Core.List.{List, [], ◌∷◌, ◌++◌, append-nil}
 use mathlib.Core.Logic.{◌⊎◌, inl, inr}
 use Prim.Native.Nat.{ℕ, suc, ◌+◌, ◌-◌, ◌≤◌, ◌<◌}
 use native.Mathlib.Omega.{arith}
 use lib.Dec.{eqb}
-use lib.ListN.{length, get_or, set, take, drop, replicate, length-drop, length-replicate}
-use lib.Seq.{sets, drop-drop, length-take-le, get_or-take, get_or-drop}
+use lib.ListN.{length, get_or, set, take, drop, replicate, length-drop, length-replicate, drop_of_length-le}
+use lib.Seq.{sets, sets-eq, drop-drop, length-take-le, get_or-take, get_or-drop}
 use borrow.Rule.Slice.PartMut.{put_mid}
 use Rattle.std.proofs.lemmas.List.{drop-take, length-set}
 use Rattle.aps_table.proofs.PlaceSteps.{stored}
@@ -93,6 +93,12 @@ unfolding marked mark_bytes
 mark-part m n at e =
     let z : at + (1 + table_bytes) - (at + 1) ≡ table_bytes = omega arith in
     rw z (ap (take table_bytes) (sym (drop-drop 1 at m)) ∙ sym (drop-take 1 table_bytes (drop at m)) ∙ ap (λ (i : ℕ). drop 1 (take (1 + table_bytes) (drop i m))) e)
+
+-- as many bytes put over a table are the table
+pub whole-put : (t b : List ℕ) → length b ≡ length t → sets t 0 b ≡ b
+whole-put t b h =
+    let d : drop (0 + length b) t ≡ [] = drop_of_length-le t (omega (arith, h)) in
+    sets-eq b t 0 (omega (arith, h)) ∙ ap (λ (r : List ℕ). b ++ r) d ∙ append-nil b
 
 -- a mark's first byte and the others stored behind it
 pub mark-stored : (m t : List ℕ) (n at : ℕ) → n ≤ 7 → at ≡ mark_at n → length t ≡ table_bytes → length m ≡ marks_bytes

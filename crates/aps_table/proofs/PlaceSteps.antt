@@ -95,6 +95,16 @@ stored-both table header rbsp base i e n h =
     let b : sets (sets table i header) (i + length header) rbsp ≡ sets table i (header ++ rbsp) = stored_behind table header rbsp i (omega (arith, n, h)) in
     rw g (s ∙ rw n at b)
 
+-- a header copied, and then an RBSP put behind it
+pub header-then : (table header rbsp : List ℕ) (base i : ℕ) → base ≡ i → length header ≡ 2 → i + 2 + length rbsp ≤ length table
+    → sets (put_mid base (base + 2 - base) table header) (base + 2) rbsp ≡ sets table i (header ++ rbsp)
+header-then table header rbsp base i e n h =
+    let f : put_mid base (base + length header - base) table header ≡ sets table i header = stored table header base i e (omega (arith, n, h)) in
+    let g : put_mid base (base + 2 - base) table header ≡ sets table i header = rw n at f in
+    let q : base + 2 ≡ i + 2 = omega (arith, e) in
+    let b : sets (sets table i header) (i + length header) rbsp ≡ sets table i (header ++ rbsp) = stored_behind table header rbsp i (omega (arith, n, h)) in
+    rw (g, q) (rw n at b)
+
 -- no more than a header and a set of its kind take
 pub place-most : (table : List ℕ) (k i : ℕ) → Names k i → length (place_bytes table k i) ≤ place_size k
 unfolding place_bytes

@@ -2,7 +2,7 @@
 ghost use Rattle.std.specs.Prelude.{◌≡◌, false, ◌≤◌, ◌<◌, leb, IfSome, IfNone};
 ghost use Rattle.aps_table.specs.Marks.{mark_at, new_marks, set_mark, go_back, given, is_done, done_answer};
 
-use crate::places::{TABLE_BYTES, Table};
+use crate::places::{TABLE_BYTES, Table, put_over};
 use bitstream::Refusal;
 
 // How many marks there are.
@@ -41,7 +41,7 @@ pub fn set_mark(table: &Table, marks: &mut Marks, mark: u8) -> Result<(), Refusa
 {
     let at = place_of(mark).ok_or(Refusal::InvalidData)?;
     marks[at] = 1;
-    marks[at + 1..at + MARK_BYTES].copy_from_slice(table);
+    put_over(marks, at + 1, table);
     Ok(())
 }
 
@@ -54,6 +54,6 @@ pub fn go_back(table: &mut Table, marks: &Marks, mark: u8) -> Result<(), Refusal
     if marks[at] == 0 {
         return Err(Refusal::MarkNotSet);
     }
-    table.copy_from_slice(&marks[at + 1..at + MARK_BYTES]);
+    put_over(table, 0, &marks[at + 1..at + MARK_BYTES]);
     Ok(())
 }

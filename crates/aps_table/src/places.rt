@@ -42,6 +42,16 @@ pub fn new_table() -> Table
     [0u8; TABLE_BYTES]
 }
 
+// Bytes put over those from a place on. No copy_from_slice: where the compiler can't tell that the two lie apart, it is a call of memmove, which the archive for C needs nowhere else.
+pub(crate) fn put_over(to: &mut [u8], at: usize, bytes: &[u8])
+    requires { at + length bytes.now ≤ length to.old }
+    ensures { to.new ≡ sets to.old at bytes.now }
+{
+    for i in 0..bytes.len() {
+        to[at + i] = bytes[i];
+    }
+}
+
 // A place of the table: an id of its kind.
 #[derive(Clone, Copy)]
 pub(crate) struct Place {
@@ -143,7 +153,7 @@ impl Place {
         let at = self.at();
         let start = at + HEADER_BYTES;
         table[at..start].copy_from_slice(header);
-        table[start..start + rbsp.len()].copy_from_slice(rbsp);
+        put_over(table, start, rbsp);
     }
 
     ghost use Rattle.aps_table.specs.Taking.{clear};

@@ -1,6 +1,6 @@
 // Where a unit of a stream ends, H.266 Annex B.
 ghost use Rattle.std.specs.Prelude.{◌+◌, ◌≤◌, length};
-ghost use Rattle.aps_table.specs.Inner.{Scanned, UnitEnd};
+ghost use Rattle.aps_table.specs.Inner.{InUnit, Scanned, UnitEnd};
 
 // Where a unit goes on after the last bytes of a stream, fewer than three: zero bytes at the end are not the unit's own.
 fn scan_last(s: &[u8], e: usize) -> Option<usize>
@@ -20,6 +20,18 @@ fn scan_last(s: &[u8], e: usize) -> Option<usize>
     None
 }
 
+// Where a unit goes on after steps of three bytes of which the last is over 1: most of a unit is passed in these.
+fn pass_threes(s: &[u8], from: usize) -> usize
+    requires { from ≤ length s.now }
+    ensures { InUnit s.now from result }
+{
+    let mut e = from;
+    while 3 <= s.len() - e && s[e + 2] > 1 {
+        e += 3;
+    }
+    e
+}
+
 // Where a unit goes on after a step; none: it ends here. No start code begins in three bytes of which the last is over 1.
 fn scan_on(s: &[u8], e: usize) -> Option<usize>
     requires { e ≤ length s.now }
@@ -29,7 +41,7 @@ fn scan_on(s: &[u8], e: usize) -> Option<usize>
         return scan_last(s, e);
     }
     if s[e + 2] > 1 {
-        return Some(e + 3);
+        return Some(pass_threes(s, e + 3));
     }
     if s[e + 1] != 0 {
         return Some(e + 2);

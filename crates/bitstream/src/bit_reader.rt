@@ -7,7 +7,7 @@ ghost use Rattle.bitstream.specs.Windows.{window_at, code_in, found};
 ghost use Rattle.bitstream.specs.Reading.{u_at, u_lacking, ue_at, ue_lacking, se_at, se_lacking, trailing_at};
 
 use crate::Refusal;
-use crate::place::{Place, bits};
+use crate::place::{Place, bits, in_byte};
 use crate::short_codes::short_code;
 use crate::window::{Code, code_in, window_alone};
 
@@ -63,6 +63,7 @@ impl Field<u32> {
 }
 
 // A ue of any length.
+#[inline(never)]
 fn long_ue(place: Place) -> Result<Field<u32>, Refusal>
     ensures field { outcome_field result ≡ ue_at place.entry.bytes.now place.entry.bit }
     ensures lacking { is_lacking result ≡ ue_lacking place.entry.bytes.now place.entry.bit }
@@ -81,7 +82,8 @@ fn long_ue(place: Place) -> Result<Field<u32>, Refusal>
     })
 }
 
-// A ue that was looked for at the start of the window at its place.
+// A ue that was looked for at the start of the window at its place. Inlined, the code and the field stay in registers; a longer code is a call.
+#[inline(always)]
 fn ue_of(place: Place, code: Option<Code>) -> Result<Field<u32>, Refusal>
     requires { found code ≡ code_in (window_at place.bytes.now place.bit) }
     ensures field { outcome_field result ≡ ue_at place.entry.bytes.now place.entry.bit }
@@ -194,7 +196,7 @@ impl BitReader {
             return Err(Refusal::UnexpectedEnd);
         }
         let k = (7 - self.bit_pos % 8) as u32;
-        if place.bits(k + 1) == 1 << k {
+        if in_byte(place.bytes, place.bit, k + 1) == 1 << k {
             Ok(BitReader {
                 bit_pos: self.bit_pos + k as usize + 1,
             })

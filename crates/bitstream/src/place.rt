@@ -1,5 +1,5 @@
 // A place at which a field may start, and the bits from there on.
-ghost use Rattle.std.specs.Prelude.{◌≡◌, ◌+◌, ◌≤◌, length, IfOk, OnOk, IfErr};
+ghost use Rattle.std.specs.Prelude.{◌≡◌, ◌+◌, ◌%◌, ◌≤◌, length, IfOk, OnOk, IfErr};
 ghost use Rattle.bitstream.specs.Outcome.{refused, number};
 ghost use Rattle.bitstream.specs.Bits.{field_at};
 ghost use Rattle.bitstream.specs.Fields.{lacks, zeros_at, suffix_at};
@@ -23,6 +23,19 @@ pub(crate) fn bits(bytes: &[u8], p: usize, n: u32) -> u32
     ensures { result ≡ field_at bytes.now p n }
 {
     (window(bytes, p) >> 32 >> (32 - n as u64)) as u32
+}
+
+// The same where one byte holds them: no window is put together for a flag or for padding.
+pub(crate) fn in_byte(bytes: &[u8], p: usize, n: u32) -> u32
+    requires { p % 8 + n ≤ 8 }
+    ensures { result ≡ field_at bytes.now p n }
+{
+    let i = p / 8;
+    if bytes.len() <= i {
+        return 0;
+    }
+    let up = ((bytes[i] as u64) << (p % 8) as u64) % 256;
+    (up >> (8 - n as u64)) as u32
 }
 
 impl<'a> Place<'a> {
@@ -54,6 +67,9 @@ impl<'a> Place<'a> {
         requires { n ≤ 32 }
         ensures { result ≡ field_at self.entry.bytes.now self.entry.bit n }
     {
+        if self.bit % 8 + n as usize <= 8 {
+            return in_byte(self.bytes, self.bit, n);
+        }
         bits(self.bytes, self.bit, n)
     }
 

@@ -11,6 +11,19 @@ fn eight(bytes: &[u8], i: usize) -> u64
     u64::from_be_bytes(*bytes[i..].first_chunk().unwrap())
 }
 
+// The bytes from byte i on, fewer than eight and the last of them, as the highest of a number. Copied into eight zeros, they would be a call of memcpy. A call of its own: inlined, its loop takes registers from every reader of a field.
+#[inline(never)]
+fn few(bytes: &[u8], i: usize) -> u64
+    requires { (i < length bytes.now) × (length bytes.now < i + 8) }
+    ensures { result ≡ field_at bytes.now (i * 8) 64 }
+{
+    let mut w: u64 = 0;
+    for &b in &bytes[i..] {
+        w = w * 256 + b as u64;
+    }
+    w << (64 - (bytes.len() - i) * 8) as u64
+}
+
 // The 64 - p % 8 bits from bit p on, zeros past the end, as the highest of a word whose rest is 0.
 pub fn window(bytes: &[u8], p: usize) -> u64
     ensures { result ≡ window_at bytes.now p }
@@ -38,9 +51,7 @@ pub fn window_alone(bytes: &[u8], p: usize) -> u64
         let from = n - 8;
         return eight(bytes, from) << (p - from * 8) as u64;
     }
-    let mut padded = [0u8; 8];
-    padded[..n].copy_from_slice(bytes);
-    eight(&padded, 0) << p as u64
+    few(bytes, i) << (p % 8) as u64
 }
 
 // A ue at the start of a word: its value and its bits.

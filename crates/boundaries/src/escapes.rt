@@ -109,13 +109,19 @@ fn unescape_room_cases() {
     into_room(b"unescape", nal::ebsp_to_rbsp, b"\x07", 0);
 }
 
-// The longest input, and one byte more.
+// The longest input. A call of its own, as the next, so that one input at a time is on the stack.
+#[inline(never)]
 fn longest_cases() {
     let longest = [0u8; 65536];
     into_room(b"escape", nal::rbsp_to_ebsp, &longest, 98304);
     into_room(b"escape", nal::rbsp_to_ebsp, &longest, 98303);
     into_room(b"unescape", nal::ebsp_to_rbsp, &longest, 65536);
     into_room(b"unescape", nal::ebsp_to_rbsp, &longest, 65535);
+}
+
+// One byte more.
+#[inline(never)]
+fn too_long_cases() {
     let too_long = [0u8; 65537];
     into_room(b"escape", nal::rbsp_to_ebsp, &too_long, 98306);
     into_room(b"unescape", nal::ebsp_to_rbsp, &too_long, 98306);
@@ -129,4 +135,5 @@ pub fn run() {
     room_cases();
     unescape_room_cases();
     longest_cases();
+    too_long_cases();
 }

@@ -89,6 +89,8 @@ fn empty_cases() {
     each_kind(b"", 1);
 }
 
+// A call of its own, as the next, so that one long input at a time is on the stack.
+#[inline(never)]
 fn longest_cases() {
     let longest = [0xFFu8; 65536];
     for at in [0, 524280, 524287, 524288] {
@@ -96,6 +98,7 @@ fn longest_cases() {
     }
 }
 
+#[inline(never)]
 fn too_long_cases() {
     let too_long = [0xFFu8; 65537];
     each_kind(&too_long, 0);

@@ -105,11 +105,19 @@ fn start_cases() {
     write_into(1, 1048577, Field::Trailing);
 }
 
-// At the largest start, into an output that reaches behind it.
+// At the largest start, into the first `room` bytes of an output that reaches behind it. A call of its own, so that one such output at a time is on the stack.
+#[inline(never)]
+fn far_into(room: usize, f: Field)
+    requires { room ≤ 131076 }
+{
+    let mut out = [0u8; 131076];
+    write(&mut out[..room], 1048576, f);
+}
+
 fn far_cases() {
-    write(&mut [0; 131076], 1048576, Field::Bits(0xFFFFFFFF, 32));
-    write(&mut [0; 131076], 1048576, Field::Bits(1, 33));
-    write(&mut [0; 131073], 1048576, Field::Trailing);
+    far_into(131076, Field::Bits(0xFFFFFFFF, 32));
+    far_into(131076, Field::Bits(1, 33));
+    far_into(131073, Field::Trailing);
 }
 
 // Just enough room, then one byte less.

@@ -33,6 +33,8 @@ impl Struct<VvcAlfData> for ApsAlf {
         self.aps_extension_flag
     }
 
+    // Inlined, the record is known to lie apart from the struct, and its arrays need no memmove.
+    #[inline(always)]
     #[tactic(auto, unfolding(crate::specs::Structs::alf_struct))]
     fn put(&mut self, set: &ApsOf<VvcAlfData>) {
         let head = set.head;

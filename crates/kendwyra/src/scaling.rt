@@ -32,6 +32,8 @@ impl Struct<VvcScalingListData> for ApsScaling {
         self.aps_extension_flag
     }
 
+    // Inlined, the record is known to lie apart from the struct, and its arrays need no memmove.
+    #[inline(always)]
     #[tactic(auto, unfolding(crate::specs::Structs::scaling_struct))]
     fn put(&mut self, set: &ApsOf<VvcScalingListData>) {
         let head = set.head;

@@ -21,8 +21,7 @@ fn number(n: u64) {
 }
 
 fn flag(f: bool) {
-    text(b" ");
-    number(f.into());
+    text(if f { b" 1" } else { b" 0" });
 }
 
 // Kind, id, chroma flag and extension flag.

@@ -6,7 +6,7 @@ use borrow.Author.Tests.{le-leb, eq-eqb, ne_eqb}
 use Rattle.bitstream.specs.declared.Refusal.TheVariants.{InvalidData}
 use mathlib.Core.Bool.{true, false}
 use Rattle.aps_table.specs.Marks.{is_set, go_back}
-use Rattle.aps_table.proofs.MarkLaws.{unset-at, mark-part}
+use Rattle.aps_table.proofs.MarkLaws.{unset-at, mark-part, whole-put}
 use Rattle.aps_table.proofs.marks.go_back.Goals as goal
 
 pub returns-in_err-at : goal.returns-in_err-at
@@ -33,4 +33,4 @@ returns c =
     let h = rw n at c.place_of.ensures.some in
     let s = le-leb c.args.mark 7 h.1 in
     let u : is_set c.args.marks.now c.args.mark ≡ true = unset-at c.args.marks.now c.args.mark _ h.0 ∙ rw (ne_eqb _ 0 c.if-marks-at-eq0.false) in
-    record { answer = rw (s, u) refl; table = rw (s, u) (c.copy_from_slice.ensures.after ∙ mark-part c.args.marks.now c.args.mark _ h.0) }
+    record { answer = rw (s, u) refl; table = rw (s, u) (c.put_over.ensures ∙ whole-put c.args.table.now _ (omega arith) ∙ mark-part c.args.marks.now c.args.mark _ h.0) }

@@ -18,7 +18,7 @@ returns-then-ne g c =
     let n = differs_true the_type _ _ (sym c.ne.ensures ∙ c.if-ne.true) in
     let coded = g.met.P.Coded in
     let none = coded.other _ (p.set head) (p.bare head) (λ e. n (e ∙ sym c.KIND.ensures)) in
-    mapped _ (p.read ∙ c.in_ok-opened.ensures) (rw (p.head head, none, coded.default_is _ c.default-payload.ensures))
+    mapped _ (p.read ∙ c.in_ok-opened.ensures) (rw (p.head head, none, coded.default_is _ c.default.ensures))
 
 pub returns-in_err-reading : goal.returns-in_err-reading
 returns-in_err-reading g c =

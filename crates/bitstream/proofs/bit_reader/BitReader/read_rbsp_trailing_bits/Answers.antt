@@ -22,9 +22,9 @@ returns-then-bytes-self c =
     let n = c.in_ok-place.ensures.inside in
     rw (trailing-in a.bytes.now a.self.bit_pos n.0 n.1, le-ltb _ _ c.if-bytes-self.true)
 
-pub returns-then-bits-k : goal.returns-then-bits-k
+pub returns-then-in_byte-k : goal.returns-then-in_byte-k
 unfolding read_trailing trailing_width trailing_value
-returns-then-bits-k c =
+returns-then-in_byte-k c =
     let a = c.args in
     let p = a.self.bit_pos in
     let n = c.in_ok-place.ensures in
@@ -34,14 +34,14 @@ returns-then-bits-k c =
       trailing-in a.bytes.now p n.inside.0 n.inside.1,
       lt-ltb _ _ c.if-bytes-self.false,
       w,
-      ← (rw (n.ok.0, n.ok.1) at c.bits.ensures),
-      eq-eqb _ _ (c.if-bits-k.true ∙ one_shl 32 (7 - p % 8) (omega arith)),
+      ← (rw (n.ok.0, n.ok.1) at c.in_byte.ensures),
+      eq-eqb _ _ (c.if-in_byte-k.true ∙ one_shl 32 (7 - p % 8) (omega arith)),
       e,
     )
 
-pub returns-else-bits-k : goal.returns-else-bits-k
+pub returns-else-in_byte-k : goal.returns-else-in_byte-k
 unfolding read_trailing trailing_width trailing_value
-returns-else-bits-k c =
+returns-else-in_byte-k c =
     let a = c.args in
     let p = a.self.bit_pos in
     let n = c.in_ok-place.ensures in
@@ -50,6 +50,6 @@ returns-else-bits-k c =
       trailing-in a.bytes.now p n.inside.0 n.inside.1,
       lt-ltb _ _ c.if-bytes-self.false,
       w,
-      ← (rw (n.ok.0, n.ok.1) at c.bits.ensures),
-      ne_eqb _ _ (λ e. c.if-bits-k.false (e ∙ sym (one_shl 32 (7 - p % 8) (omega arith)))),
+      ← (rw (n.ok.0, n.ok.1) at c.in_byte.ensures),
+      ne_eqb _ _ (λ e. c.if-in_byte-k.false (e ∙ sym (one_shl 32 (7 - p % 8) (omega arith)))),
     )
