@@ -32,7 +32,7 @@ fn pass_threes(s: &[u8], from: usize) -> usize
     e
 }
 
-// Where a unit goes on after a step; none: it ends here. No start code begins in three bytes of which the last is over 1.
+// Where a unit goes on after a step, or after a run of steps of three bytes; none: it ends here. No start code begins in three bytes of which the last is over 1.
 fn scan_on(s: &[u8], e: usize) -> Option<usize>
     requires { e ≤ length s.now }
     ensures { Scanned s.now e result }

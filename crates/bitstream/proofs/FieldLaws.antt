@@ -94,6 +94,12 @@ field-padded s m p (suc n) = rw (field-padded s m p n, byte-padded s m ((p + n) 
 
 -- ---- parts of a longer field
 
+-- the n bits after the first m and before the last k
+pub field_cut : (s : List ℕ) (p m n k : ℕ) → field_at s p (m + n + k) / 2 ^ k % 2 ^ n ≡ field_at s (p + m) n
+field_cut s p m n k =
+    rw (field-add s p (m + n) k, high (field_at s p (m + n)) k (field_lt s (p + (m + n)) k), field-add s p m n)
+    (low (field_at s p m) n (field_lt s (p + m) n))
+
 -- the last n bits, moved up by k in n + k bits
 pub field-up : (s : List ℕ) (p m n k : ℕ) → field_at s p (m + n) * 2 ^ k % 2 ^ (n + k) ≡ field_at s (p + m) n * 2 ^ k
 field-up s p m n k =
@@ -131,6 +137,15 @@ field-grow s i n x b e h =
 module _ (s : List ℕ) (p m w : ℕ) (e : w ≡ field_at s (p / 8 * 8) m) where
   at-bit : p / 8 * 8 + p % 8 ≡ p
   at-bit = omega arith
+
+  -- it holds the field of n bits at p
+  pub window-field : (n : ℕ) → p % 8 + n ≤ m → w / 2 ^ (m - p % 8 - n) % 2 ^ n ≡ field_at s p n
+  window-field n h =
+      let k = m - p % 8 - n in
+      let f : p % 8 + n + k ≡ m = omega arith in
+      rw e
+      (ap (λ (x : ℕ). field_at s (p / 8 * 8) x / 2 ^ k % 2 ^ n) (sym f)
+      ∙ field_cut s (p / 8 * 8) (p % 8) n k ∙ ap (λ (x : ℕ). field_at s x n) at-bit)
 
   -- moved up in a word of v bits, so that bit p is the highest
   pub window-up : (v : ℕ) → 8 ≤ m → m ≤ v → (w * 2 ^ (v - m + p % 8)) % 2 ^ v ≡ field_at s p (m - p % 8) * 2 ^ (v - m + p % 8)

@@ -35,8 +35,10 @@ pub fn window(bytes: &[u8], p: usize) -> u64
     window_alone(bytes, p)
 }
 
-// The same, past the end asked first: `window` asks first for eight whole bytes. Near the end it is the last eight bytes, moved up.
-pub fn window_alone(bytes: &[u8], p: usize) -> u64
+// The same of an input of eight bytes or more, past the end asked first: `window` asks first for eight whole bytes. Near the end it is the last eight bytes, moved up.
+#[inline(always)]
+pub(crate) fn window_long(bytes: &[u8], p: usize) -> u64
+    requires { 8 ≤ length bytes.now }
     ensures { result ≡ window_at bytes.now p }
 {
     let n = bytes.len();
@@ -47,11 +49,23 @@ pub fn window_alone(bytes: &[u8], p: usize) -> u64
     if i + 8 <= n {
         return eight(bytes, i) << (p % 8) as u64;
     }
+    let from = n - 8;
+    eight(bytes, from) << (p - from * 8) as u64
+}
+
+// The same, of any input.
+pub fn window_alone(bytes: &[u8], p: usize) -> u64
+    ensures { result ≡ window_at bytes.now p }
+{
+    let n = bytes.len();
     if 8 <= n {
-        let from = n - 8;
-        return eight(bytes, from) << (p - from * 8) as u64;
+        return window_long(bytes, p);
     }
-    few(bytes, i) << (p % 8) as u64
+    let byte = p / 8;
+    if n <= byte {
+        return 0;
+    }
+    few(bytes, byte) << (p % 8) as u64
 }
 
 // A ue at the start of a word: its value and its bits.

@@ -9,4 +9,4 @@ pub returns : goal.returns
 returns c =
     let a = c.args in
     let e : 32 + (32 - a.n) ≡ 64 - a.n = omega arith in
-    rw (shr-shr c.window.result 32 (32 - a.n), e) (window-top (window-start a.bytes.now a.p _ c.window.ensures) a.n (omega arith))
+    rw (shr-shr c.window_long.result 32 (32 - a.n), e) (window-top (window-start a.bytes.now a.p _ c.window_long.ensures) a.n (omega arith))
