@@ -35,7 +35,7 @@ pub fn window(bytes: &[u8], p: usize) -> u64
     window_alone(bytes, p)
 }
 
-// The same of an input of eight bytes or more, past the end asked first: `window` asks first for eight whole bytes. Near the end it is the last eight bytes, moved up.
+// The same of an input of eight bytes or more. Near the end it is the last eight bytes, moved up.
 #[inline(always)]
 pub(crate) fn window_long(bytes: &[u8], p: usize) -> u64
     requires { 8 ≤ length bytes.now }
@@ -43,11 +43,11 @@ pub(crate) fn window_long(bytes: &[u8], p: usize) -> u64
 {
     let n = bytes.len();
     let i = p / 8;
-    if n <= i {
-        return 0;
-    }
     if i + 8 <= n {
         return eight(bytes, i) << (p % 8) as u64;
+    }
+    if n <= i {
+        return 0;
     }
     let from = n - 8;
     eight(bytes, from) << (p - from * 8) as u64
